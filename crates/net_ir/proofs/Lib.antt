@@ -1,0 +1,4 @@
+pub mod Terms
+pub mod Layers
+pub mod Order
+pub mod Unique

@@ -1,0 +1,7 @@
+pub mod Value
+pub mod Drive
+pub mod Solution
+pub mod Plain
+pub mod Run
+pub mod Text
+pub mod Trace
