@@ -46,9 +46,9 @@ positive_widths vars has x within =
     let one : 1 ≤ found.0.init.width = found.0.init.positive in
     subst (λ n. 0 < n) (sym (width_is vars x found.0 found.1)) (omega arith)
 
-pub small_words : (vars : List Var) (u : List ℕ) → IsValuation vars u → (x : ℕ) → x < length vars → slice_index u x < 2 ^ slice_index (widths_of vars) x
+pub small_words : (vars : List Var) (u : List ℕ) → IsValuation vars u → (x : ℕ) → x < length (widths_of vars) → slice_index u x < 2 ^ slice_index (widths_of vars) x
 small_words vars u valuation x within =
-    let found = var_at vars x within in
+    let found = var_at vars x (subst (λ n. x < n) (length-widths vars) within) in
     subst (λ n. slice_index u x < 2 ^ n) (sym (width_is vars x found.0 found.1)) (valuation.fits x found.0 found.1)
 
 -- ---- one solution
@@ -64,10 +64,9 @@ agree_undriven spec inputs u v plain a b x none = by_case (slice_get_cases spec.
   by_role w is (inl input) = a.set x w is input ∙ sym (b.set x w is input)
   by_role w is (inr inner) =
     let positive = positive_widths spec.vars plain.vars in
-    let long = length-widths spec.vars in
     same_from_bits_below w.width (slice_index u x) (slice_index v x) (a.valuation.fits x w is) (b.valuation.fits x w is) (λ k within.
-      a.undriven x k w is inner within (none_gives spec.vars spec.drivers u x k positive long plain.whole none)
-      ∙ sym (b.undriven x k w is inner within (none_gives spec.vars spec.drivers v x k positive long plain.whole none)))
+      a.undriven x k w is inner within (none_gives (widths_of spec.vars) spec.drivers u x k positive plain.whole none)
+      ∙ sym (b.undriven x k w is inner within (none_gives (widths_of spec.vars) spec.drivers v x k positive plain.whole none)))
   by_case : ((w : Var) × (x < length spec.vars) × (slice_get spec.vars x ≡ Some w) × (get_or spec.vars x w ≡ w)) ⊎ ((length spec.vars ≤ x) × (slice_get spec.vars x ≡ None)) → slice_index u x ≡ slice_index v x
   by_case (inl found) = by_role found.0 found.2 (input_or_not found.0.role)
   by_case (inr past) =
@@ -76,7 +75,7 @@ agree_undriven spec inputs u v plain a b x none = by_case (slice_get_cases spec.
 pub one_solution : (spec : Spec) (inputs u v : List ℕ) → IsPlain spec → Solves spec inputs u → Solves spec inputs v → u ≡ v
 one_solution spec inputs u v plain a b =
     ext_get_or 0 u v (a.valuation.each ∙ sym b.valuation.each) (λ x within.
-      agree_all spec.vars spec.drivers u v (positive_widths spec.vars plain.vars) (length-widths spec.vars) plain.whole plain.ordered
+      agree_all (widths_of spec.vars) spec.drivers u v (positive_widths spec.vars plain.vars) plain.whole plain.ordered
         (λ y there. (small_words spec.vars u a.valuation y there, small_words spec.vars v b.valuation y there))
         a.driven b.driven (agree_undriven spec inputs u v plain a b) x)
 

@@ -7,6 +7,10 @@ use Rattle.net_ir.specs.declared.design.Driver.{Driver}
 use Rattle.net_ir.specs.declared.design.Driver.TheVariants.{Assign}
 use Rattle.net_ir.specs.Value.{val, reads_of}
 
+-- the variable that a target names, where it names one
+abbrev pub target_var : Target → Option ℕ
+target_var (Of var name place) = var
+
 -- whether an assignment to this target writes bit k of variable x: a whole name has each bit of its variable, and a name
 -- that means no variable has none
 abbrev pub writes_bit : List ℕ → Target → ℕ → ℕ → Bool

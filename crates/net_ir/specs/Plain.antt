@@ -30,21 +30,24 @@ IsLawfulLayer ws (Apply op width lo args) = IsWidth width × WidthsFit op width 
 abbrev pub IsLawful : List ℕ → Term → Type 0
 IsLawful ws = every-Term (IsLawfulLayer ws)
 
+-- a lawful term is assigned to the whole of a variable of its width that is there
+pub record IsWholeAssign (ws : List ℕ) (var : ℕ) (value : Term) : Type 0 where
+  pub there : var < length ws
+  pub width : size ws value ≡ slice_index ws var
+  pub lawful : IsLawful ws value
+
+-- a driver of that form
+abbrev pub IsWhole : List ℕ → Driver → Type 0
+IsWhole ws (Assign (Of (Some var) name place) value at) = IsWholeAssign ws var value
+IsWhole ws (Assign (Of None name place) value at) = ⊥
+
 -- variable x is an input
 abbrev pub IsInput : List Var → ℕ → Type 0
 IsInput vars x = (v : Var) × (slice_get vars x ≡ Some v) × (v.role ≡ Input)
 
--- a lawful term is assigned to the whole of a variable of its width that is there and is no input
-pub record IsWholeAssign (vars : List Var) (var : ℕ) (value : Term) : Type 0 where
-  pub there : var < length vars
-  pub inner : IsInput vars var → ⊥
-  pub width : size (widths_of vars) value ≡ slice_index (widths_of vars) var
-  pub lawful : IsLawful (widths_of vars) value
-
--- a driver of that form
-abbrev pub IsWhole : List Var → Driver → Type 0
-IsWhole vars (Assign (Of (Some var) name place) value at) = IsWholeAssign vars var value
-IsWhole vars (Assign (Of None name place) value at) = ⊥
+-- a driver writes no input
+abbrev pub SparesInputs : List Var → Driver → Type 0
+SparesInputs vars d = (x k : ℕ) → IsTrue (writes (widths_of vars) d x k) → IsInput vars x → ⊥
 
 -- no driver of the list writes bit k of variable x
 abbrev pub NoneWrites : List ℕ → List Driver → ℕ → ℕ → Type 0
@@ -67,5 +70,6 @@ pub record HasVars (vars : List Var) : Type 0 where
 
 pub record IsPlain (spec : Spec) : Type 0 where
   pub vars : HasVars spec.vars
-  pub whole : AllByRecursion (IsWhole spec.vars) spec.drivers
+  pub whole : AllByRecursion (IsWhole (widths_of spec.vars)) spec.drivers
+  pub inner : AllByRecursion (SparesInputs spec.vars) spec.drivers
   pub ordered : AreOrdered (widths_of spec.vars) spec.drivers

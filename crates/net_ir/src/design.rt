@@ -34,6 +34,20 @@ pub enum Target {
     },
 }
 
+impl Target {
+    ghost use Rattle.std.specs.Prelude.{◌≡◌};
+    ghost use Rattle.net_ir.specs.Drive.{target_var};
+
+    /// The number of the variable that the target names, where it names one.
+    pub fn var(&self) -> Option<u32>
+        ensures { result ≡ target_var self.now }
+    {
+        match self {
+            Target::Of { var, .. } => *var,
+        }
+    }
+}
+
 /// What gives nets their values.
 #[derive(Drop)]
 pub enum Driver {

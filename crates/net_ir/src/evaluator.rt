@@ -3,9 +3,13 @@
 ghost use Rattle.std.specs.Prelude.{◌≡◌, [], ◌∷◌, length};
 ghost use Rattle.bit_ops.specs.Width.{WidthsFit};
 ghost use Rattle.bit_ops.specs.Rows.{value_of};
-ghost use Rattle.net_ir.specs.Value.{words, widths, operands, size, val};
-ghost use Rattle.net_ir.specs.Plain.{IsKnown, IsLawful};
+ghost use Rattle.std.specs.List.{AllByRecursion};
+ghost use Rattle.net_ir.specs.Value.{words, widths, widths_of, operands, size, val};
+ghost use Rattle.net_ir.specs.Plain.{IsKnown, IsLawful, IsWhole, HasVars, IsPlain};
+ghost use Rattle.net_ir.specs.Pass.{source_of, sources_of, IsStorable, store, effect, run};
+ghost use Rattle.net_ir.specs.Solution.{Solves};
 
+use crate::design::{Driver, Role, Spec, Target, Var};
 use crate::term::Term;
 use bit_ops::{Bits, Op, bit_and, bit_not, bit_or, bit_xor};
 
@@ -51,5 +55,75 @@ pub fn evaluate(term: &Term, values: &[Bits]) -> Bits
             }
             apply(*op, *width, *lo, &given[..count])
         }
+    }
+}
+
+/// The values of all variables in the design's one solution for these values of the inputs: a value for each
+/// variable stands in `inputs`, and those of other variables are not read. Takes no memory.
+pub fn solve(spec: &Spec, inputs: &[Bits], values: &mut [Bits])
+    requires plain { IsPlain spec.now }
+    requires inputs { widths inputs.now ≡ widths_of spec.now.vars }
+    requires values { widths values.old ≡ widths_of spec.now.vars }
+    ensures widths { widths values.new ≡ widths_of spec.now.vars }
+    ensures solved { Solves spec.now (words inputs.now) (words values.new) }
+{
+    set_sources(spec.vars.as_slice(), inputs, values);
+    drive_all(spec.drivers.as_slice(), values);
+}
+
+/// What a variable has that no driver writes.
+fn source(var: &Var, input: Bits) -> Bits
+    ensures { result ≡ source_of var.now input }
+{
+    match var.role {
+        Role::Input => input,
+        Role::Output => var.init,
+    }
+}
+
+/// Gives each variable what it has where no driver writes it.
+fn set_sources(vars: &[Var], inputs: &[Bits], values: &mut [Bits])
+    requires vars { HasVars vars.now }
+    requires inputs { widths inputs.now ≡ widths_of vars.now }
+    requires values { length values.old ≡ length vars.now }
+    ensures widths { widths values.new ≡ widths_of vars.now }
+    ensures sources { values.new ≡ sources_of vars.now inputs.now }
+{
+    for x in 0..vars.len() {
+        values[x] = source(&vars[x], inputs[x]);
+    }
+}
+
+/// Takes each of the drivers once, in their order.
+fn drive_all(drivers: &[Driver], values: &mut [Bits])
+    requires { AllByRecursion (IsWhole (widths values.old)) drivers.now }
+    ensures widths { widths values.new ≡ widths values.old }
+    ensures words { words values.new ≡ run (widths values.old) drivers.now (words values.old) }
+{
+    for driver in drivers {
+        drive(driver, values);
+    }
+}
+
+/// Gives a driver's variable its value.
+fn drive(driver: &Driver, values: &mut [Bits])
+    requires { IsWhole (widths values.old) driver.now }
+    ensures widths { widths values.new ≡ widths values.old }
+    ensures words { words values.new ≡ effect (widths values.old) driver.now (words values.old) }
+{
+    match driver {
+        Driver::Assign { target, value, .. } => store(target, evaluate(value, values), values),
+    }
+}
+
+/// Stores a value in the whole of a target.
+fn store(target: &Target, value: Bits, values: &mut [Bits])
+    requires { IsStorable (widths values.old) target.now value.width }
+    ensures widths { widths values.new ≡ widths values.old }
+    ensures words { words values.new ≡ store target.now value.word (words values.old) }
+{
+    match target.var() {
+        Some(var) => values[var as usize] = value,
+        None => unreachable!(),
     }
 }
