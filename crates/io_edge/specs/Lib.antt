@@ -1,0 +1,4 @@
+pub mod Fault
+pub mod Told
+pub mod File
+pub mod Ground
