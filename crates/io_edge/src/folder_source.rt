@@ -63,7 +63,11 @@ fn count_bytes<D: Folder>(folder: &mut D, name: &str) -> Result<u64, Failed>
     ensures later { D.read_faults folder.old ≤ D.read_faults folder.new }
     ensures no_write { D.write_faults folder.old ≡ D.write_faults folder.new }
 {
-    let mut source = FolderSource { folder, name, at: 0 };
+    let mut source = FolderSource {
+        folder,
+        name,
+        at: 0,
+    };
     drain(&mut source)
 }
 
@@ -72,7 +76,11 @@ fn count_twice<D: Folder>(folder: &mut D, name: &str) -> Result<u64, Failed>
     ensures failed { OnErr result (Rose (D.read_faults folder.old) (D.read_faults folder.new)) }
     ensures later { D.read_faults folder.old ≤ D.read_faults folder.new }
 {
-    let mut source = FolderSource { folder: &mut *folder, name, at: 0 };
+    let mut source = FolderSource {
+        folder: &mut *folder,
+        name,
+        at: 0,
+    };
     let once = drain(&mut source)?;
     let twice = count_bytes(folder, name)?;
     Ok(once.saturating_add(twice))

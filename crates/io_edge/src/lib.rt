@@ -3,12 +3,20 @@
 //! the adapters to the files and streams of the system.
 #![tactic(auto)]
 
+mod calls;
+mod copying;
 mod folder;
 mod folder_source;
+mod mem_folder;
+mod mem_sink;
+mod offering;
 mod sink;
 mod source;
 
 pub use folder::{Failed, Folder, Got};
 pub use folder_source::FolderSource;
+pub use mem_folder::MemFolder;
+pub use mem_sink::MemSink;
+pub use offering::offer;
 pub use sink::Sink;
 pub use source::Source;
