@@ -31,5 +31,5 @@ module _ {A : Type 0} where
       ] e
 
   -- no file is longer than a vector can be
-  pub files_short : (files : List (List ℕ × Vec ℕ A)) → AreShort (Some (files_of files))
-  files_short files name bytes e = found_short files name bytes (sym (get-files_of files name) ∙ e)
+  pub all_short : (files : List (List ℕ × Vec ℕ A)) → AreShort (Some (files_of files))
+  all_short files name bytes e = found_short files name bytes (sym (get-files_of files name) ∙ e)

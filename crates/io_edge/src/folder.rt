@@ -52,7 +52,7 @@ pub trait Folder {
         ensures no_read { read_faults self.new ≡ read_faults self.old };
 
     // a file has at most 2^63 bytes
-    ghost short: { (folder : Self) → AreShort (content folder) };
+    ghost files_short: { (folder : Self) → AreShort (content folder) };
 
     // the counts stop at the greatest u64
     ghost counts_stop: { (folder : Self) → (read_faults folder ≤ 2 ^ 64 - 1) × (write_faults folder ≤ 2 ^ 64 - 1) };

@@ -1,6 +1,5 @@
 ghost use Rattle.std.specs.Prelude.{◌≡◌, ◌+◌, ◌<◌, Some};
-ghost use Rattle.std.proofs.Common.{rules};
-ghost use Rattle.io_edge.specs.Fault.{count_of, listed_faults};
+ghost use Rattle.io_edge.specs.Fault.{count_of, count_of-stops, listed_faults};
 
 use crate::calls::is_to_fail;
 use crate::folder::Failed;
@@ -23,7 +22,7 @@ impl Sink for MemSink {
 
     ghost faults = { λ sink. count_of (listed_faults sink.fail.items sink.calls + sink.short) };
 
-    ghost count_stops = { λ sink. Prim.search rules };
+    ghost count_stops = { λ sink. count_of-stops _ };
 
     fn write(&mut self, piece: &[u8]) -> Result<usize, Failed> {
         if is_to_fail(&mut self.calls, &self.fail) {

@@ -1,5 +1,5 @@
 use Rattle.std.proofs.Common.{◌≤◌}
-use Rattle.io_edge.proofs.folder_source.drain.Given as goal
+use Rattle.io_edge.proofs.tests.count_left.Given as goal
 
 abbrev pub invariant-loop : goal.invariant-loop
 invariant-loop g l =
