@@ -123,7 +123,7 @@ remainder_positive w v a b m n q r same f ne ra off fits em en e =
 -- ---- shifts to the right that keep the sign
 
 -- with its lowest bits cut off, the other way round
-complement_shifted : (w k a : ℕ) → k ≤ w → a < 2 ^ w → (2 ^ w - 1 - a) / 2 ^ k ≡ 2 ^ (w - k) - 1 - a / 2 ^ k
+pub complement_shifted : (w k a : ℕ) → k ≤ w → a < 2 ^ w → (2 ^ w - 1 - a) / 2 ^ k ≡ 2 ^ (w - k) - 1 - a / 2 ^ k
 complement_shifted w k a h f =
     let q : ℕ = a / 2 ^ k in
     let d : ℕ = 2 ^ (w - k) - 1 - a / 2 ^ k in

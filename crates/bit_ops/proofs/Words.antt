@@ -104,12 +104,12 @@ cleared m lo n a k h f e =
     omega (arith, three_parts lo n a)
 
 -- the inserted word fits its place
-placed_fits : (lo n a b : ℕ) → b < 2 ^ n → b * 2 ^ lo + a % 2 ^ lo < 2 ^ (lo + n)
+pub placed_fits : (lo n a b : ℕ) → b < 2 ^ n → b * 2 ^ lo + a % 2 ^ lo < 2 ^ (lo + n)
 placed_fits lo n a b g =
     subst (λ (k : ℕ). b * 2 ^ lo + a % 2 ^ lo < k) (sym (pow-add 2 lo n))
     (mul-add-lt b (2 ^ lo) (a % 2 ^ lo) (2 ^ n) g (mod_below a (2 ^ lo) (pow_pos lo)))
 
-regroup : (lo n a b : ℕ)
+pub regroup : (lo n a b : ℕ)
     → insert_of lo n a b ≡ a / 2 ^ (lo + n) * 2 ^ (lo + n) + (b * 2 ^ lo + a % 2 ^ lo)
 regroup lo n a b = omega arith
 

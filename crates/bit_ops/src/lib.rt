@@ -6,6 +6,7 @@ pub mod bitwise;
 pub mod choice;
 pub mod compare;
 pub mod extend;
+pub mod laws;
 pub mod operation;
 pub mod part;
 pub mod reduce;
