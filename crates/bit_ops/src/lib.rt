@@ -23,3 +23,6 @@ pub use part::{concat, insert, slice};
 pub use reduce::{red_and, red_or, red_xor};
 pub use shift::{shl, shr_s, shr_u};
 pub use value::{Bits, MAX_WIDTH, Word};
+
+#[cfg(test)]
+mod tests;
