@@ -1,1 +1,5 @@
 pub mod Words
+pub mod Signed
+pub mod Positions
+pub mod Algebra
+pub mod Fits

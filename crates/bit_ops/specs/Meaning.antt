@@ -11,6 +11,10 @@ signed_of w a = if nat_lt a (2 ^ (w - 1)) then pos a else pos a -ℤ pos (2 ^ w)
 abbrev pub word_of : ℕ → ℤ → ℕ
 word_of w z = unsigned_abs (int_rem_euclid z (pos (2 ^ w)))
 
+-- how far the signed number that a word of w bits stands for is from 0
+abbrev pub magnitude_of : ℕ → ℕ → ℕ
+magnitude_of w a = unsigned_abs (signed_of w a)
+
 -- w times the sign bit of a word of w bits
 abbrev pub sign_bits_of : ℕ → ℕ → ℕ
 sign_bits_of w a = if nat_lt a (2 ^ (w - 1)) then 0 else 2 ^ w - 1

@@ -1,7 +1,16 @@
-use Rattle.std.specs.Prelude.{ℕ, List, [], ◌∷◌}
+use Rattle.std.specs.Prelude.{ℕ, ◌^◌, ◌<◌, List, [], ◌∷◌, map, ⊤}
 use Rattle.bit_ops.specs.declared.operation.Op.{Op}
 use Rattle.bit_ops.specs.declared.operation.Op.TheVariants.{Const, Zext, Sext, Slice, Concat, Not, Neg, And, Or, Xor, Add, Sub, Mul, DivU, DivS, ModU, ModS, Shl, ShrU, ShrS, Eq, LtU, LtS, RedAnd, RedOr, RedXor, Mux, Insert}
 use Rattle.bit_ops.specs.Meaning.{zext_of, sext_of, slice_of, concat_of, insert_of, not_of, and_of, or_of, xor_of, neg_of, add_of, sub_of, mul_of, div_u_of, mod_u_of, div_s_of, mod_s_of, shl_of, shr_u_of, shr_s_of, eq_of, lt_u_of, lt_s_of, red_and_of, red_or_of, red_xor_of, mux_of}
+
+-- the operands' widths, where an operand is a pair of its width and its word
+abbrev pub widths_of : List (ℕ × ℕ) → List ℕ
+widths_of operands = map (λ x. x.0) operands
+
+-- each operand's word is below 2 to its width
+abbrev pub AreWords : List (ℕ × ℕ) → Type 0
+AreWords [] = ⊤
+AreWords (x ∷ rest) = (x.1 < 2 ^ x.0) × AreWords rest
 
 -- f of the width and the word of the one operand, and 0 for any other number of operands
 abbrev pub of_one : (ℕ → ℕ → ℕ) → List (ℕ × ℕ) → ℕ

@@ -1,6 +1,6 @@
 //! The operations that work on each bit alone (IEEE 1800-2017, clause 11.4.8).
 
-ghost use Rattle.std.specs.Prelude.{◌≡◌, [], ◌∷◌, bit_and, bit_or, bit_xor};
+ghost use Rattle.std.specs.Prelude.{◌≡◌, [], ◌∷◌};
 ghost use Rattle.bit_ops.specs.Width.{WidthsFit};
 ghost use Rattle.bit_ops.specs.Meaning.{not_of, and_of, or_of, xor_of};
 

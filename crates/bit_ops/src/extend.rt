@@ -2,10 +2,10 @@
 
 ghost use Rattle.std.specs.Prelude.{◌≡◌, [], ◌∷◌};
 ghost use Rattle.bit_ops.specs.Width.{IsWidth, WidthsFit};
-ghost use Rattle.bit_ops.specs.Meaning.{zext_of};
+ghost use Rattle.bit_ops.specs.Meaning.{zext_of, sext_of};
 
 use crate::operation::Op;
-use crate::value::Bits;
+use crate::value::{Bits, ones};
 
 /// The value at width `w`, with 0 for each new bit.
 pub fn zext(a: Bits, w: u32) -> Bits
@@ -15,4 +15,18 @@ pub fn zext(a: Bits, w: u32) -> Bits
     ensures value { result.word ≡ zext_of a.word }
 {
     Bits::new(w, a.word)
+}
+
+/// The value at width `w`, with the sign bit for each new bit.
+pub fn sext(a: Bits, w: u32) -> Bits
+    requires width { IsWidth w }
+    requires fits { WidthsFit Op.Sext w 0 (a.width ∷ []) }
+    ensures width { result.width ≡ w }
+    ensures value { result.word ≡ sext_of a.width w a.word }
+{
+    if a.is_negative() {
+        Bits::new(w, a.word + (ones(w) - ones(a.width)))
+    } else {
+        Bits::new(w, a.word)
+    }
 }

@@ -1,6 +1,6 @@
 //! A value: a width and the word that holds its bits.
 
-ghost use Rattle.std.specs.Prelude.{◌≡◌, ◌%◌, ◌-◌, ◌^◌, ◌<◌, ◌≤◌};
+ghost use Rattle.std.specs.Prelude.{◌≡◌, ◌%◌, ◌-◌, ◌^◌, ◌<◌, ◌≤◌, ◌↔◌, IsTrue, if◌then◌else◌};
 ghost use Rattle.bit_ops.specs.Width.{IsWidth};
 ghost use Rattle.bit_ops.specs.declared.value.TheConstants.{MAX_WIDTH};
 
@@ -52,6 +52,24 @@ impl Bits {
             width,
             word: word & ones(width),
         }
+    }
+
+    /// The value of one bit that says whether a fact holds.
+    pub fn flag(holds: bool) -> Self
+        ensures width { result.width ≡ 1 }
+        ensures word { result.word ≡ (if holds then 1 else 0) }
+    {
+        Bits {
+            width: 1,
+            word: if holds { 1 } else { 0 },
+        }
+    }
+
+    /// Whether the sign bit, which is the highest, is 1.
+    pub fn is_negative(self) -> bool
+        ensures { IsTrue result ↔ (2 ^ (self.width - 1) ≤ self.word) }
+    {
+        self.word >> (self.width - 1) != 0
     }
 }
 
