@@ -1,14 +1,14 @@
 -- How the operations undo and repeat one another.
-use Rattle.std.proofs.Common.{◌≡◌, ℕ, ◌+◌, ◌-◌, ◌*◌, ◌/◌, ◌%◌, ◌^◌, ◌<◌, ◌≤◌, ℤ, pos, negsuc, ◌-ℤ◌, ltb, cond, inl, inr, refl, ap, ap₂, ◌∙◌, sym, subst, arith, add_comm, add_assoc}
-use Rattle.std.specs.Prelude.{unsigned_abs, int_lt}
-use Rattle.std.specs.Int.{int_rem_euclid, bit_at}
-use Rattle.std.proofs.Math.Nat.{mod-eq_of_lt, div-eq_of_lt, mod-mod, add-mul, mul_assoc, add-mod_right, zero-mod, zero-div, div-one, mod-one, two-pow-succ}
-use Rattle.std.proofs.lemmas.Nat.{pow_pos, pow-add, shr-shr, field_of, shr_below, mod_below, mod-pow-add, shr_high, mod_low}
+use Rattle.std.proofs.Common.{◌≡◌, ℕ, ◌+◌, ◌-◌, ◌*◌, ◌/◌, ◌%◌, ◌^◌, ◌<◌, ◌≤◌, ℤ, pos, negsuc, ltb, cond, inl, inr, refl, ap, ap₂, ◌∙◌, sym, subst, arith}
+use Rattle.std.specs.Prelude.{int_lt}
+use Rattle.std.specs.Int.{bit_at}
+use Rattle.std.proofs.Math.Nat.{mod-eq_of_lt, div-eq_of_lt, add-mul, mul_assoc, div-one, mod-one, two-pow-succ}
+use Rattle.std.proofs.lemmas.Nat.{pow_pos, pow-add, shr-shr, mod_below, mod-pow-add}
 use Rattle.std.proofs.lemmas.Nat.Bits.{same_from_bits_below, same_from_bits}
 use Rattle.std.proofs.lemmas.Int.{ints}
 use Rattle.std.proofs.lemmas.Bool.{lt-ltb, le-ltb, cond-true, cond-false, cases_lt}
-use Rattle.bit_ops.specs.Meaning.{signed_of, word_of, zext_of, sext_of, slice_of, concat_of, insert_of, shr_u_of, lt_u_of, lt_s_of, mux_of}
-use Rattle.bit_ops.proofs.Words.{wider, pow_le, cut_twice, three_parts, regroup, placed_fits, joined_fits, inserted_fits}
+use Rattle.bit_ops.specs.Meaning.{signed_of, word_of, zext_of, sext_of, slice_of, concat_of, insert_of, shr_u_of, lt_u_of, lt_s_of}
+use Rattle.bit_ops.proofs.Words.{wider, pow_le, three_parts, regroup, joined_fits}
 use Rattle.bit_ops.proofs.Signed.{signed_low, signed_high, signed_negative, word_of_pos, word_of_difference, extended_low, extended_high}
 use Rattle.bit_ops.proofs.Positions.{bit_at-slice, bit_at-concat_low, bit_at-concat_high, bit_at-insert_below, bit_at-insert_inside, bit_at-insert_above, bit_at-sext_low, slice_fits}
 

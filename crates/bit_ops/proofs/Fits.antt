@@ -1,6 +1,6 @@
 -- The value of an operation is a word of its width.
-use Rattle.std.proofs.Common.{◌≡◌, ℕ, ◌+◌, ◌-◌, ◌*◌, ◌/◌, ◌%◌, ◌^◌, ◌<◌, ◌≤◌, List, [], ◌∷◌, ℤ, pos, negsuc, Bool, true, false, cond, nat_lt, refl, ap, ◌∙◌, sym, subst, arith}
-use Rattle.std.specs.Prelude.{bit_and, bit_or, bit_xor, count_ones, ◌==◌}
+use Rattle.std.proofs.Common.{◌≡◌, ℕ, ◌+◌, ◌-◌, ◌*◌, ◌/◌, ◌%◌, ◌^◌, ◌<◌, ◌≤◌, List, [], ◌∷◌, pos, Bool, true, false, cond, nat_lt, sym, subst, arith}
+use Rattle.std.specs.Prelude.{count_ones, ◌==◌}
 use Rattle.std.specs.Int.{int_div_euclid}
 use Rattle.std.proofs.Math.Nat.{mod-le, div-le_self}
 use Rattle.std.proofs.lemmas.Nat.{pow_pos, mod_below, and_le_l, or_lt, xor_lt, shr_le}
@@ -8,7 +8,7 @@ use Rattle.bit_ops.specs.declared.operation.Op.{Op}
 use Rattle.bit_ops.specs.declared.operation.Op.TheVariants.{Const, Zext, Sext, Slice, Concat, Not, Neg, And, Or, Xor, Add, Sub, Mul, DivU, DivS, ModU, ModS, Shl, ShrU, ShrS, Eq, LtU, LtS, RedAnd, RedOr, RedXor, Mux, Insert}
 use Rattle.bit_ops.specs.Width.{OneWidth, TwoWidths, ThreeWidths, WidthsFit}
 use Rattle.bit_ops.specs.Rows.{widths_of, AreWords, of_one, of_two, of_three, value_of}
-use Rattle.bit_ops.specs.Meaning.{signed_of, word_of, sign_bits_of, zext_of, sext_of, slice_of, concat_of, insert_of, not_of, and_of, or_of, xor_of, neg_of, add_of, sub_of, mul_of, div_u_of, mod_u_of, div_s_of, mod_s_of, shl_of, shr_u_of, shr_s_of, eq_of, lt_u_of, lt_s_of, red_and_of, red_or_of, red_xor_of, mux_of}
+use Rattle.bit_ops.specs.Meaning.{signed_of, sign_bits_of, zext_of, sext_of, slice_of, concat_of, insert_of, not_of, and_of, or_of, xor_of, neg_of, add_of, sub_of, mul_of, div_u_of, mod_u_of, div_s_of, mod_s_of, shl_of, shr_u_of, shr_s_of, eq_of, lt_u_of, lt_s_of, red_and_of, red_or_of, red_xor_of, mux_of}
 use Rattle.bit_ops.proofs.Words.{wider, joined_fits, inserted_fits}
 use Rattle.bit_ops.proofs.Algebra.{word_of_fits}
 

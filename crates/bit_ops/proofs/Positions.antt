@@ -1,12 +1,12 @@
 -- The bits of each operation's result, by their positions.
-use Rattle.std.proofs.Common.{◌≡◌, ℕ, suc, ◌+◌, ◌-◌, ◌*◌, ◌/◌, ◌%◌, ◌^◌, ◌<◌, ◌≤◌, ltb, inl, inr, refl, ap, ◌∙◌, sym, subst, arith, add_comm}
+use Rattle.std.proofs.Common.{◌≡◌, ℕ, ◌+◌, ◌-◌, ◌*◌, ◌/◌, ◌%◌, ◌^◌, ◌<◌, ◌≤◌, ltb, inl, inr, refl, ap, ◌∙◌, sym, subst, arith}
 use Rattle.std.specs.Int.{bit_at}
-use Rattle.std.proofs.Math.Nat.{add-mul, div-eq_of_lt, div-eq_of_lt-le, two-pow-succ, one-mul, mul-one, zero-mul}
+use Rattle.std.proofs.Math.Nat.{add-mul, div-eq_of_lt, div-eq_of_lt-le, two-pow-succ}
 use Rattle.std.proofs.lemmas.Nat.{pow_pos, pow-add, shr-shr, field_of, shr_below, mod_below}
 use Rattle.std.proofs.lemmas.Nat.Bits.{bit_at_cat_low, bit_at_cat_high, bit_at_above, bit_at_ones, bit_at-zero}
 use Rattle.std.proofs.lemmas.Bool.{lt-ltb, le-ltb, cond-true, cond-false, cases_lt}
-use Rattle.bit_ops.specs.Meaning.{sext_of, slice_of, concat_of, insert_of, not_of, shl_of, shr_u_of, shr_s_of, word_of, sign_bits_of}
-use Rattle.bit_ops.proofs.Words.{cut_twice, regroup, placed_fits, pow_le}
+use Rattle.bit_ops.specs.Meaning.{sext_of, slice_of, concat_of, insert_of, not_of, shl_of, shr_u_of, shr_s_of}
+use Rattle.bit_ops.proofs.Words.{cut_twice, regroup, placed_fits}
 use Rattle.bit_ops.proofs.Signed.{extended_low, extended_high, complement_shifted, shifted_below, shifted_past}
 
 -- cut to w bits

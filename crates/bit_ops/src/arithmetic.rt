@@ -49,11 +49,7 @@ pub fn div_u(a: Bits, b: Bits) -> Bits
     ensures width { result.width ≡ a.width }
     ensures value { result.word ≡ div_u_of a.word b.word }
 {
-    if b.word == 0 {
-        Bits::zero(a.width)
-    } else {
-        Bits::new(a.width, a.word / b.word)
-    }
+    Bits::new(a.width, a.word.checked_div(b.word).unwrap_or(0))
 }
 
 /// `a % b` of unsigned numbers.
@@ -62,11 +58,7 @@ pub fn mod_u(a: Bits, b: Bits) -> Bits
     ensures width { result.width ≡ a.width }
     ensures value { result.word ≡ mod_u_of a.word b.word }
 {
-    if b.word == 0 {
-        Bits::zero(a.width)
-    } else {
-        Bits::new(a.width, a.word % b.word)
-    }
+    Bits::new(a.width, a.word.checked_rem(b.word).unwrap_or(0))
 }
 
 /// `a / b` of signed numbers.

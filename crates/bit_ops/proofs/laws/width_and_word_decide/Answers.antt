@@ -1,7 +1,6 @@
-use Rattle.std.proofs.Common.{◌≡◌, ℕ, ◌^◌, ◌<◌, ◌≤◌}
+use Rattle.std.proofs.Common.{ℕ, ◌^◌, ◌<◌, ◌≤◌}
 use Rattle.std.proofs.Props.{props}
 use mathlib.Core.HLevel.{is_prop→PathP}
-use Rattle.bit_ops.specs.declared.value.Bits.{Bits}
 use Rattle.bit_ops.specs.declared.value.TheConstants.{MAX_WIDTH}
 use Rattle.bit_ops.proofs.laws.width_and_word_decide.Goals as goal
 
