@@ -30,10 +30,10 @@ lawful_apply ws op width lo args lawful = subst (IsLawfulLayer ws) (outs-Apply o
 lawful_at : (ws : List ℕ) (held : List ((t : Term) × IsLawful ws t)) (args : List Term) (k : ℕ) (a : Term) → map (λ e. e.0) held ≡ args → k < length args → a ≡ get_or args k a → IsLawful ws a
 lawful_at ws held args k a is within here =
     by_place held k (subst (λ xs. k < length xs) (sym is) within) (here ∙ ap (λ xs. get_or xs k a) (sym is)) where
-  by_place : (es : List ((t : Term) × IsLawful ws t)) (i : ℕ) → i < length (map (λ e. e.0) es) → a ≡ get_or (map (λ e. e.0) es) i a → IsLawful ws a
-  by_place [] i far at = absurd (omega arith)
-  by_place (e ∷ es) zero near at = subst (IsLawful ws) (sym at) e.1
-  by_place (e ∷ es) (suc i) near at = by_place es i (omega arith) at
+      by_place : (es : List ((t : Term) × IsLawful ws t)) (i : ℕ) → i < length (map (λ e. e.0) es) → a ≡ get_or (map (λ e. e.0) es) i a → IsLawful ws a
+      by_place [] i far at = absurd (omega arith)
+      by_place (e ∷ es) zero near at = subst (IsLawful ws) (sym at) e.1
+      by_place (e ∷ es) (suc i) near at = by_place es i (omega arith) at
 
 lawful_held : (ws : List ℕ) (op : Op) (width lo : ℕ) (args : List Term) (y : Term-F ((t : Term) × IsLawful ws t)) → map-Term ((t : Term) × IsLawful ws t) Term (λ e. e.0) y ≡ layer.Apply op width lo args → (held : List ((t : Term) × IsLawful ws t)) × (map (λ e. e.0) held ≡ args)
 lawful_held ws op width lo args (layer.Const bits) is = absurd (cc)

@@ -71,9 +71,9 @@ ArePositive ws = (x : ℕ) → x < length ws → 0 < slice_index ws x
 effect_leaves : (ws : List ℕ) (d : Driver) (u : List ℕ) (x : ℕ) → ArePositive ws → IsWhole ws d → writes ws d x 0 ≡ false → slice_index (effect ws d u) x ≡ slice_index u x
 effect_leaves ws (Assign (Of None name place) value at) u x positive whole clear = refl
 effect_leaves ws (Assign (Of (Some var) name place) value at) u x positive whole clear =
-    get_or-set_other u var x (val ws u value) 0 (λ same. 
-      let hits : ((var == x) && nat_lt 0 (slice_index ws var)) ≡ true = subst (λ y. ((var == y) && nat_lt 0 (slice_index ws var)) ≡ true) (sym same) (writes_all ws var 0 (positive var whole.there)) in
-      let clash : true ≡ false = sym hits ∙ clear in cc)
+    get_or-set_other u var x (val ws u value) 0 (λ same.
+    let hits : ((var == x) && nat_lt 0 (slice_index ws var)) ≡ true = subst (λ y. ((var == y) && nat_lt 0 (slice_index ws var)) ≡ true) (sym same) (writes_all ws var 0 (positive var whole.there)) in
+    let clash : true ≡ false = sym hits ∙ clear in cc)
 
 -- so does a run of such drivers
 pub run_leaves : (ws : List ℕ) (drivers : List Driver) (u : List ℕ) (x : ℕ) → ArePositive ws → AllByRecursion (IsWhole ws) drivers → NoneWrites ws drivers x 0 → slice_index (run ws drivers u) x ≡ slice_index u x
@@ -100,13 +100,13 @@ given_bit : (ws : List ℕ) (var x k word bit : ℕ) (u : List ℕ) → (if (var
 given_bit ws var x k word bit u given stands = by_test ((var == x) && nat_lt k (slice_index ws var)) refl where
   by_test : (t : Bool) → ((var == x) && nat_lt k (slice_index ws var)) ≡ t → bit_at (slice_index u x) k ≡ bit
   by_test true is =
-    let here : var ≡ x = test_eq var x (front_of_and (var == x) (nat_lt k (slice_index ws var)) is) in
-    let some : Some (bit_at word k) ≡ Some bit = subst (λ (b : Bool). (if b then Some (bit_at word k) else None) ≡ Some bit) is given in
-    let e : bit_at word k ≡ bit = cc in
-    ap (λ y. bit_at (slice_index u y) k) (sym here) ∙ ap (λ n. bit_at n k) stands ∙ e
+      let here : var ≡ x = test_eq var x (front_of_and (var == x) (nat_lt k (slice_index ws var)) is) in
+      let some : Some (bit_at word k) ≡ Some bit = subst (λ (b : Bool). (if b then Some (bit_at word k) else None) ≡ Some bit) is given in
+      let e : bit_at word k ≡ bit = cc in
+      ap (λ y. bit_at (slice_index u y) k) (sym here) ∙ ap (λ n. bit_at n k) stands ∙ e
   by_test false is =
-    let none : None ≡ Some bit = subst (λ (b : Bool). (if b then Some (bit_at word k) else None) ≡ Some bit) is given in
-    absurd (let clash : None ≡ Some bit = none in cc)
+      let none : None ≡ Some bit = subst (λ (b : Bool). (if b then Some (bit_at word k) else None) ≡ Some bit) is given in
+      absurd (let clash : None ≡ Some bit = none in cc)
 
 -- the first driver of an ordered list gives what stands in the end
 drives_first : (ws : List ℕ) (d : Driver) (later : List Driver) (u : List ℕ) → ArePositive ws → length u ≡ length ws → IsWhole ws d → AllByRecursion (IsWhole ws) later → IsBefore ws d later → IsDriven ws (run ws (d ∷ later) u) d
@@ -116,18 +116,19 @@ drives_first ws (Assign (Of (Some var) name place) value at) later u positive sh
     let end = run ws (d ∷ later) u in
     let alone : NoneWrites ws later var 0 = before.alone var 0 (writes_all ws var 0 (positive var whole.there)) in
     let stands : slice_index end var ≡ val ws u value =
-      run_leaves ws later (effect ws d u) var positive wholes alone
-      ∙ get_or-set_same u var (val ws u value) 0 (subst (λ n. var < n) (sym shape) whole.there) in
+    run_leaves ws later (effect ws d u) var positive wholes alone
+    ∙ get_or-set_same u var (val ws u value) 0 (subst (λ n. var < n) (sym shape) whole.there) in
     let same : val ws end value ≡ val ws u value =
-      ap (λ p. p.1) (operand_is_local ws value end u (leaves_reads ws (d ∷ later) u (reads_of value) positive (whole, wholes) before.settled)) in
+    ap (λ p. p.1) (operand_is_local ws value end u (leaves_reads ws (d ∷ later) u (reads_of value) positive (whole, wholes) before.settled)) in
     given_bit ws var x k (val ws end value) bit end given (stands ∙ sym same)
 
 -- each driver of an ordered list gives what stands in the end
 pub drives_all : (ws : List ℕ) (drivers : List Driver) (u : List ℕ) → ArePositive ws → length u ≡ length ws → AllByRecursion (IsWhole ws) drivers → AreOrdered ws drivers → AllByRecursion (IsDriven ws (run ws drivers u)) drivers
 drives_all ws [] u positive shape wholes ordered = tt
-drives_all ws (d ∷ later) u positive shape wholes ordered =
-    (drives_first ws d later u positive shape wholes.0 wholes.1 ordered.0,
-     drives_all ws later (effect ws d u) positive (effect_length ws d u ∙ shape) wholes.1 ordered.1)
+drives_all ws (d ∷ later) u positive shape wholes ordered = (
+  drives_first ws d later u positive shape wholes.0 wholes.1 ordered.0,
+  drives_all ws later (effect ws d u) positive (effect_length ws d u ∙ shape) wholes.1 ordered.1,
+)
 
 -- ---- what nothing drives
 
@@ -140,8 +141,8 @@ writes_none : (ws : List ℕ) (d : Driver) (x k : ℕ) → ArePositive ws → Is
 writes_none ws (Assign (Of None name place) value at) x k positive whole clear = refl
 writes_none ws (Assign (Of (Some var) name place) value at) x k positive whole clear =
     writes_no_other ws var x k (λ same.
-      let hits : ((var == x) && nat_lt 0 (slice_index ws var)) ≡ true = subst (λ y. ((var == y) && nat_lt 0 (slice_index ws var)) ≡ true) same (writes_all ws var 0 (positive var whole.there)) in
-      absurd (let clash : true ≡ false = sym hits ∙ clear in cc))
+    let hits : ((var == x) && nat_lt 0 (slice_index ws var)) ≡ true = subst (λ y. ((var == y) && nat_lt 0 (slice_index ws var)) ≡ true) same (writes_all ws var 0 (positive var whole.there)) in
+    absurd (let clash : true ≡ false = sym hits ∙ clear in cc))
 
 pub none_gives : (ws : List ℕ) (drivers : List Driver) (u : List ℕ) (x k : ℕ) → ArePositive ws → AllByRecursion (IsWhole ws) drivers → NoneWrites ws drivers x 0 → AllByRecursion (λ d. gives ws d u x k ≡ None) drivers
 none_gives ws [] u x k positive wholes none = tt
@@ -160,8 +161,8 @@ writes_not_first : (ws : List ℕ) (d : Driver) (x k : ℕ) → ArePositive ws �
 writes_not_first ws (Assign (Of None name place) value at) x k positive whole within clear = refl
 writes_not_first ws (Assign (Of (Some var) name place) value at) x k positive whole within clear =
     writes_no_other ws var x 0 (λ same.
-      let hits : ((var == x) && nat_lt k (slice_index ws var)) ≡ true = and_of_true (var == x) (nat_lt k (slice_index ws var)) (eq_test var x same) (lt_test k (slice_index ws var) (subst (λ y. k < slice_index ws y) (sym same) within)) in
-      absurd (let clash : true ≡ false = sym hits ∙ clear in cc))
+    let hits : ((var == x) && nat_lt k (slice_index ws var)) ≡ true = and_of_true (var == x) (nat_lt k (slice_index ws var)) (eq_test var x same) (lt_test k (slice_index ws var) (subst (λ y. k < slice_index ws y) (sym same) within)) in
+    absurd (let clash : true ≡ false = sym hits ∙ clear in cc))
 
 pub none_writes : (ws : List ℕ) (drivers : List Driver) (u : List ℕ) (x k : ℕ) → ArePositive ws → AllByRecursion (IsWhole ws) drivers → k < slice_index ws x → AllByRecursion (λ d. gives ws d u x k ≡ None) drivers → NoneWrites ws drivers x 0
 none_writes ws [] u x k positive wholes within none = tt
@@ -185,16 +186,16 @@ drives_alike ws (Assign (Of (Some var) name place) value at) later u v positive 
   by_case : (var ≡ x) ⊎ (var ≡ x → ⊥) → slice_index u x ≡ slice_index v x
   by_case (inr other) = but x (writes_no_other ws var x 0 other, none)
   by_case (inl here) =
-    let d : Driver = Assign (Of (Some var) name place) value at in
-    let same : val ws u value ≡ val ws v value =
+      let d : Driver = Assign (Of (Some var) name place) value at in
+      let same : val ws u value ≡ val ws v value =
       ap (λ p. p.1) (operand_is_local ws value u v (agree_reads ws (d ∷ later) u v (reads_of value) but before.settled)) in
-    let given : (w : List ℕ) (k : ℕ) → k < slice_index ws var → gives ws d w var k ≡ Some (bit_at (val ws w value) k) =
+      let given : (w : List ℕ) (k : ℕ) → k < slice_index ws var → gives ws d w var k ≡ Some (bit_at (val ws w value) k) =
       λ w k within. ap (λ (b : Bool). if b then Some (bit_at (val ws w value) k) else None) (writes_all ws var k within) in
-    let bits : (k : ℕ) → k < slice_index ws var → bit_at (slice_index u var) k ≡ bit_at (slice_index v var) k =
+      let bits : (k : ℕ) → k < slice_index ws var → bit_at (slice_index u var) k ≡ bit_at (slice_index v var) k =
       λ k within. drives_u var k _ (given u k within) ∙ ap (λ word. bit_at word k) same ∙ sym (drives_v var k _ (given v k within)) in
-    let fits = small var whole.there in
-    let e : slice_index u var ≡ slice_index v var = same_from_bits_below (slice_index ws var) (slice_index u var) (slice_index v var) fits.0 fits.1 bits in
-    subst (λ y. slice_index u y ≡ slice_index v y) here e
+      let fits = small var whole.there in
+      let e : slice_index u var ≡ slice_index v var = same_from_bits_below (slice_index ws var) (slice_index u var) (slice_index v var) fits.0 fits.1 bits in
+      subst (λ y. slice_index u y ≡ slice_index v y) here e
 
 -- so two valuations that agree where no driver writes agree everywhere
 pub agree_all : (ws : List ℕ) (drivers : List Driver) (u v : List ℕ) → ArePositive ws → AllByRecursion (IsWhole ws) drivers → AreOrdered ws drivers → ((x : ℕ) → x < length ws → (slice_index u x < 2 ^ slice_index ws x) × (slice_index v x < 2 ^ slice_index ws x)) → AllByRecursion (IsDriven ws u) drivers → AllByRecursion (IsDriven ws v) drivers → AgreeBut ws drivers u v → (x : ℕ) → slice_index u x ≡ slice_index v x

@@ -32,16 +32,16 @@ word_at values x b within is = get_or-map (λ (v : Bits). v.word) values x b 0 w
 -- values of the variables' widths are a valuation
 pub are_valuation : (vars : List Var) (values : List Bits) → widths values ≡ widths_of vars → IsValuation vars (words values)
 are_valuation vars values is = record {
-    each = length-map values (λ b. b.word) ∙ length_from_widths values vars is;
-    fits = λ x v at.
+  each = length-map values (λ b. b.word) ∙ length_from_widths values vars is;
+  fits = λ x v at.
       let within : x < length values = subst (λ n. x < n) (sym (length_from_widths values vars is)) (slice_get_within vars x v at) in
       let found = value_at values x within in
       let same : found.0.width ≡ v.width =
-        sym (get_or-map (λ (b : Bits). b.width) values x found.0 0 within ∙ ap (λ (b : Bits). b.width) (sym found.1))
-        ∙ ap (λ ws. slice_index ws x) is ∙ width_is vars x v at in
+      sym (get_or-map (λ (b : Bits). b.width) values x found.0 0 within ∙ ap (λ (b : Bits). b.width) (sym found.1))
+      ∙ ap (λ ws. slice_index ws x) is ∙ width_is vars x v at in
       let fits : found.0.word < 2 ^ found.0.width = found.0.fits in
       subst (λ n. n < 2 ^ v.width) (sym (word_at values x found.0 within found.1)) (subst (λ w. found.0.word < 2 ^ w) same fits);
-  }
+}
 
 -- what stands before the drivers
 source_word : (vars : List Var) (inputs : List Bits) (x : ℕ) (v : Var) → widths inputs ≡ widths_of vars → length (sources_of vars inputs) ≡ length vars → slice_get vars x ≡ Some v → (b : Bits) × (slice_index (words inputs) x ≡ b.word) × (slice_index (words (sources_of vars inputs)) x ≡ (source_of v b).word)
@@ -49,10 +49,12 @@ source_word vars inputs x v is long at =
     let here : x < length vars = slice_get_within vars x v at in
     let there : x < length inputs = subst (λ n. x < n) (sym (length_from_widths inputs vars is)) here in
     let found = value_at inputs x there in
-    let v_is : v ≡ get_or vars x v = sym (get_or_from_slice_get vars x v v at) in
-    (found.0, word_at inputs x found.0 there found.1,
+    let v_is : v ≡ get_or vars x v = sym (get_or_from_slice_get vars x v v at) in (
+      found.0,
+      word_at inputs x found.0 there found.1,
       word_at (sources_of vars inputs) x (source_of v found.0) (subst (λ n. x < n) (sym long) here)
-        (sym (source_index vars inputs x v found.0 (source_of v found.0) here there v_is found.1)))
+          (sym (source_index vars inputs x v found.0 (source_of v found.0) here there v_is found.1)),
+    )
 
 source_is_input : (v : Var) (b : Bits) → v.role ≡ Input → (source_of v b).word ≡ b.word
 source_is_input v b is = ap (λ r. (source_at r b v.init).word) is
@@ -78,15 +80,15 @@ run_solves spec inputs values plain is_inputs is_values is_run =
     let sources_long : length (sources_of vars inputs) ≡ length vars = length_from_widths (sources_of vars inputs) vars (sources_widths vars inputs plain.vars.each is_inputs) in
     let before_long : length before ≡ length ws = length-map (sources_of vars inputs) (λ b. b.word) ∙ sources_long ∙ sym (length-widths vars) in
     let leaves : (x : ℕ) → NoneWrites ws spec.drivers x 0 → slice_index (words values) x ≡ slice_index before x =
-      λ x none. ap (λ u. slice_index u x) is_run ∙ run_leaves ws spec.drivers before x positive plain.whole none in
+    λ x none. ap (λ u. slice_index u x) is_run ∙ run_leaves ws spec.drivers before x positive plain.whole none in
     record {
       valuation = are_valuation vars values is_values;
       set = λ x v at input.
-        let source = source_word vars inputs x v is_inputs sources_long at in
-        leaves x (spared vars spec.drivers x plain.inner (v, at, input)) ∙ source.2 ∙ source_is_input v source.0 input ∙ sym source.1;
+          let source = source_word vars inputs x v is_inputs sources_long at in
+          leaves x (spared vars spec.drivers x plain.inner (v, at, input)) ∙ source.2 ∙ source_is_input v source.0 input ∙ sym source.1;
       driven = subst (λ u. AllByRecursion (IsDriven ws u) spec.drivers) (sym is_run) (drives_all ws spec.drivers before positive before_long plain.whole plain.ordered);
       undriven = λ x k v at inner within none.
-        let source = source_word vars inputs x v is_inputs sources_long at in
-        let bit : k < slice_index ws x = subst (λ n. k < n) (sym (width_is vars x v at)) within in
-        ap (λ n. bit_at n k) (leaves x (none_writes ws spec.drivers (words values) x k positive plain.whole bit none) ∙ source.2 ∙ source_is_init v.role source.0 v.init inner);
+          let source = source_word vars inputs x v is_inputs sources_long at in
+          let bit : k < slice_index ws x = subst (λ n. k < n) (sym (width_is vars x v at)) within in
+          ap (λ n. bit_at n k) (leaves x (none_writes ws spec.drivers (words values) x k positive plain.whole bit none) ∙ source.2 ∙ source_is_init v.role source.0 v.init inner);
     }

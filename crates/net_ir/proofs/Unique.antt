@@ -63,21 +63,22 @@ agree_undriven spec inputs u v plain a b x none = by_case (slice_get_cases spec.
   by_role : (w : Var) → slice_get spec.vars x ≡ Some w → (w.role ≡ Input) ⊎ (w.role ≡ Input → ⊥) → slice_index u x ≡ slice_index v x
   by_role w is (inl input) = a.set x w is input ∙ sym (b.set x w is input)
   by_role w is (inr inner) =
-    let positive = positive_widths spec.vars plain.vars in
-    same_from_bits_below w.width (slice_index u x) (slice_index v x) (a.valuation.fits x w is) (b.valuation.fits x w is) (λ k within.
+      let positive = positive_widths spec.vars plain.vars in
+      same_from_bits_below w.width (slice_index u x) (slice_index v x) (a.valuation.fits x w is) (b.valuation.fits x w is) (λ k within.
       a.undriven x k w is inner within (none_gives (widths_of spec.vars) spec.drivers u x k positive plain.whole none)
       ∙ sym (b.undriven x k w is inner within (none_gives (widths_of spec.vars) spec.drivers v x k positive plain.whole none)))
+
   by_case : ((w : Var) × (x < length spec.vars) × (slice_get spec.vars x ≡ Some w) × (get_or spec.vars x w ≡ w)) ⊎ ((length spec.vars ≤ x) × (slice_get spec.vars x ≡ None)) → slice_index u x ≡ slice_index v x
   by_case (inl found) = by_role found.0 found.2 (input_or_not found.0.role)
   by_case (inr past) =
-    get_or_past u x 0 (subst (λ n. n ≤ x) (sym a.valuation.each) past.0) ∙ sym (get_or_past v x 0 (subst (λ n. n ≤ x) (sym b.valuation.each) past.0))
+      get_or_past u x 0 (subst (λ n. n ≤ x) (sym a.valuation.each) past.0) ∙ sym (get_or_past v x 0 (subst (λ n. n ≤ x) (sym b.valuation.each) past.0))
 
 pub one_solution : (spec : Spec) (inputs u v : List ℕ) → IsPlain spec → Solves spec inputs u → Solves spec inputs v → u ≡ v
 one_solution spec inputs u v plain a b =
     ext_get_or 0 u v (a.valuation.each ∙ sym b.valuation.each) (λ x within.
-      agree_all (widths_of spec.vars) spec.drivers u v (positive_widths spec.vars plain.vars) plain.whole plain.ordered
-        (λ y there. (small_words spec.vars u a.valuation y there, small_words spec.vars v b.valuation y there))
-        a.driven b.driven (agree_undriven spec inputs u v plain a b) x)
+    agree_all (widths_of spec.vars) spec.drivers u v (positive_widths spec.vars plain.vars) plain.whole plain.ordered
+    (λ y there. (small_words spec.vars u a.valuation y there, small_words spec.vars v b.valuation y there))
+    a.driven b.driven (agree_undriven spec inputs u v plain a b) x)
 
 -- ---- one trace
 

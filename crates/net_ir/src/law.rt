@@ -10,11 +10,9 @@ ghost use Rattle.net_ir.specs.Trace.{IsTrace};
 /// A plain design has at most one solution for given levels of its inputs.
 pub fn one_solution()
     ensures { (spec : Spec) (inputs u v : List ℕ) → IsPlain spec → Solves spec inputs u → Solves spec inputs v → u ≡ v }
-{
-}
+{}
 
 /// A plain design has at most one trace over given steps.
 pub fn one_trace()
     ensures { (spec : Spec) (steps : List Step) (a b : List ℕ) → IsPlain spec → IsTrace spec steps a → IsTrace spec steps b → a ≡ b }
-{
-}
+{}

@@ -7,7 +7,10 @@ use sv_base::Place;
 pub enum Term {
     Const(Bits),
     /// The whole of a variable, by its number.
-    Read { var: u32, place: Place },
+    Read {
+        var: u32,
+        place: Place,
+    },
     /// An operation on the values of terms: the result's width in bits, and the position that the operation's
     /// row names, 0 where it names none.
     Apply {

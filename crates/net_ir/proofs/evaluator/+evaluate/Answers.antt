@@ -27,10 +27,12 @@ pub evaluate-requires : goal.evaluate-requires
 evaluate-requires t c =
     let ws = widths c.args.values.now in
     let lawful : IsLawful ws (Apply c.in-Apply.op c.in-Apply.width c.in-Apply.lo c.in-Apply.args) = subst (IsLawful ws) c.in-Apply.is c.requires in
-    let same = c.as_slice-arg-items.ensures in
-    (search (rules, the_lemmas, get_or_read, c.well_formed), lawful_arg ws c.in-Apply.op c.in-Apply.width c.in-Apply.lo c.in-Apply.args c.loop-arg.arg-index c.arg-item.result lawful
-      (subst (λ xs. c.loop-arg.arg-index < length xs) same c.loop-arg-test.true)
-      (c.arg-item.is ∙ ap (λ xs. get_or xs c.loop-arg.arg-index c.arg-item.result) same))
+    let same = c.as_slice-arg-items.ensures in (
+      search (rules, the_lemmas, get_or_read, c.well_formed),
+      lawful_arg ws c.in-Apply.op c.in-Apply.width c.in-Apply.lo c.in-Apply.args c.loop-arg.arg-index c.arg-item.result lawful
+          (subst (λ xs. c.loop-arg.arg-index < length xs) same c.loop-arg-test.true)
+          (c.arg-item.is ∙ ap (λ xs. get_or xs c.loop-arg.arg-index c.arg-item.result) same),
+    )
 
 pub loop-arg-preserved : goal.loop-arg-preserved
 loop-arg-preserved t c =
@@ -39,14 +41,14 @@ loop-arg-preserved t c =
     let inv = c.loop-arg.invariant in
     let here : c.loop-arg.arg-index < length c.loop-arg.given = omega arith in
     let value : (c.evaluate.result.width, c.evaluate.result.word) ≡ operand_of ws u c.arg-item.result =
-      ap (λ w. (w, c.evaluate.result.word)) (c.evaluate.ensures.width ∙ sym (width_is_size ws u c.arg-item.result)) ∙ ap (λ n. ((operand_of ws u c.arg-item.result).0, n)) c.evaluate.ensures.word in
+    ap (λ w. (w, c.evaluate.result.word)) (c.evaluate.ensures.width ∙ sym (width_is_size ws u c.arg-item.result)) ∙ ap (λ n. ((operand_of ws u c.arg-item.result).0, n)) c.evaluate.ensures.word in
     let index : c.loop-arg.count ≡ c.loop-arg.arg-index = inv.count in
     record {
       count = omega arith;
       room = length-set c.loop-arg.given c.loop-arg.count c.evaluate.result ∙ inv.room;
       few = inv.few;
       so_far = subst (λ k. operands (take (c.loop-arg.arg-index + 1) (slice_set c.loop-arg.given k c.evaluate.result)) ≡ map (operand_of ws u) (take (c.loop-arg.arg-index + 1) c.as_slice-arg-items.result.now)) (sym index)
-        (more_operands ws u c.loop-arg.given c.as_slice-arg-items.result.now c.loop-arg.arg-index c.evaluate.result c.arg-item.result here c.loop-arg-test.true c.arg-item.is value inv.so_far);
+          (more_operands ws u c.loop-arg.given c.as_slice-arg-items.result.now c.loop-arg.arg-index c.evaluate.result c.arg-item.result here c.loop-arg-test.true c.arg-item.is value inv.so_far);
     }
 
 pub apply-requires-clause-known : goal.apply-requires-clause-known
@@ -58,7 +60,7 @@ pub apply-requires-clause-fits : goal.apply-requires-clause-fits
 apply-requires-clause-fits t c =
     let ws = widths c.args.values.now in
     all_fit ws (words c.args.values.now) c.in-Apply.op c.in-Apply.width c.in-Apply.lo c.loop-arg.given c.as_slice-arg-items.result.now c.in-Apply.args c.loop-arg.count c.loop-arg.arg-index
-      (subst (IsLawful ws) c.in-Apply.is c.requires) c.as_slice-arg-items.ensures c.loop-arg.invariant.count c.loop-arg-test.false c.loop-arg.invariant.so_far
+    (subst (IsLawful ws) c.in-Apply.is c.requires) c.as_slice-arg-items.ensures c.loop-arg.invariant.count c.loop-arg-test.false c.loop-arg.invariant.so_far
 
 pub returns-in-Read-clause-width : goal.returns-in-Read-clause-width
 returns-in-Read-clause-width t c =

@@ -11,8 +11,8 @@ returns-clause-solved c =
     let before : widths c.set_sources.new.values ≡ widths_of vars = c.set_sources.ensures.widths ∙ ap widths_of same_vars in
     let after : widths c.drive_all.new.values ≡ widths_of vars = c.drive_all.ensures.widths ∙ before in
     let stands : words c.drive_all.new.values ≡ run (widths_of vars) c.args.spec.now.drivers (words (sources_of vars c.args.inputs.now)) =
-      c.drive_all.ensures.words
-      ∙ ap (λ ws. run ws c.as_slice-2.result.now (words c.set_sources.new.values)) before
-      ∙ ap (λ ds. run (widths_of vars) ds (words c.set_sources.new.values)) c.as_slice-2.ensures
-      ∙ ap (λ xs. run (widths_of vars) c.args.spec.now.drivers (words xs)) (c.set_sources.ensures.sources ∙ ap (λ vs. sources_of vs c.args.inputs.now) same_vars) in
+    c.drive_all.ensures.words
+    ∙ ap (λ ws. run ws c.as_slice-2.result.now (words c.set_sources.new.values)) before
+    ∙ ap (λ ds. run (widths_of vars) ds (words c.set_sources.new.values)) c.as_slice-2.ensures
+    ∙ ap (λ xs. run (widths_of vars) c.args.spec.now.drivers (words xs)) (c.set_sources.ensures.sources ∙ ap (λ vs. sources_of vs c.args.inputs.now) same_vars) in
     run_solves c.args.spec.now c.args.inputs.now c.drive_all.new.values c.requires.plain c.requires.inputs after stands

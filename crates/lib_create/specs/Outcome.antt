@@ -1,0 +1,97 @@
+-- What the program owes for words and files: a status, what it writes on standard output, and what on standard error.
+use Rattle.std.specs.Prelude.{◌≡◌, ℕ, ◌≤◌, List, [], ◌∷◌, ◌++◌, length, codes, Option, None, Some, Result, Ok, Err, ◌⊎◌}
+use Rattle.std.specs.Fmt.{decimal}
+use Rattle.std.specs.FinMap.{get}
+use Rattle.io_edge.specs.File.{Files}
+use Rattle.net_ir.specs.Run.{Step}
+use Rattle.net_ir.specs.Trace.{IsTrace}
+use Rattle.lib_create.specs.declared.tree.Module.{Module}
+use Rattle.lib_create.specs.Command.{Sim, Misuse, Wrong, TooFew, meaning_of}
+use Rattle.lib_create.specs.Grammar.{Spells}
+use Rattle.lib_create.specs.Design.{design_of, IsLegal}
+use Rattle.lib_create.specs.Stimulus.{BadLine, Script, script_of, reason_text}
+
+-- how a run ends that no call of the outside cuts short
+pub data Verdict : Type 0 where
+  Done : Verdict
+  Misused : (misuse : Misuse) → Verdict
+  SourceAbsent : (file : List ℕ) → Verdict
+  NotPlain : Verdict
+  StimulusAbsent : Verdict
+  Bad : (bad : BadLine) → Verdict
+
+-- its status
+abbrev pub status_of : Verdict → ℕ
+status_of Done = 0
+status_of (Misused misuse) = 2
+status_of (SourceAbsent file) = 3
+status_of NotPlain = 3
+status_of StimulusAbsent = 5
+status_of (Bad bad) = 5
+
+abbrev pub misuse_text : Misuse → List ℕ
+misuse_text (Wrong word) = word
+misuse_text TooFew = codes "too few words"
+
+-- its message, one line or nothing
+abbrev pub message_of : Verdict → List ℕ
+message_of Done = []
+message_of (Misused misuse) = codes "usage: " ++ misuse_text misuse ++ 10 ∷ []
+message_of (SourceAbsent file) = codes "absent " ++ file ++ 10 ∷ []
+message_of NotPlain = codes "-:0: Unsupported plain" ++ 10 ∷ []
+message_of StimulusAbsent = codes "stimulus 1: absent" ++ 10 ∷ []
+message_of (Bad bad) = codes "stimulus " ++ decimal bad.line ++ codes ": " ++ reason_text bad.reason bad.word ++ 10 ∷ []
+
+-- the most bytes of a source, and the most steps after step 0
+abbrev pub source_limit : ℕ
+source_limit = 1048576
+
+abbrev pub step_limit : ℕ
+step_limit = 16777215
+
+-- the bytes of the source spell a module that is a plain design with this top
+pub record IsSource (top bytes : List ℕ) (m : Module) : Type 0 where
+  pub short : length bytes ≤ source_limit
+  pub spells : Spells 1 bytes m
+  pub legal : IsLegal top m
+
+-- how the run of a design ends, and its trace, by the script of its stimulus
+abbrev pub verdict_of_bad : Option BadLine → Verdict
+verdict_of_bad None = Done
+verdict_of_bad (Some bad) = Bad bad
+
+abbrev pub Plays : Module → Script → Verdict → List ℕ → Type 0
+Plays m script verdict trace = (verdict ≡ verdict_of_bad script.bad) × IsTrace (design_of m) script.steps trace
+
+-- the stimulus is not there: the trace has no step but step 0
+abbrev pub EndsWithStimulus : Module → Option (List ℕ) → Verdict → List ℕ → Type 0
+EndsWithStimulus m None verdict trace = (verdict ≡ StimulusAbsent) × IsTrace (design_of m) [] trace
+EndsWithStimulus m (Some bytes) verdict trace = Plays m (script_of (design_of m).vars step_limit bytes) verdict trace
+
+-- the source is one module that is a plain design, or it is refused
+abbrev pub EndsWithSource : Files → Sim → Option (List ℕ) → Verdict → List ℕ → Type 0
+EndsWithSource files sim None verdict trace = (verdict ≡ SourceAbsent sim.file) × (trace ≡ [])
+EndsWithSource files sim (Some bytes) verdict trace =
+    ((m : Module) × IsSource sim.top bytes m × EndsWithStimulus m (get files sim.stimulus) verdict trace)
+    ⊎ (((m : Module) → IsSource sim.top bytes m → ⊥) × (verdict ≡ NotPlain) × (trace ≡ []))
+
+-- the words are the command's, or they are refused
+abbrev pub EndsWithWords : Files → Result Sim Misuse → Verdict → List ℕ → Type 0
+EndsWithWords files (Ok sim) verdict trace = EndsWithSource files sim (get files sim.file) verdict trace
+EndsWithWords files (Err misuse) verdict trace = (verdict ≡ Misused misuse) × (trace ≡ [])
+
+-- for these files and words the run ends so, with these bytes on standard output
+abbrev pub Ends : Files → List (List ℕ) → Verdict → List ℕ → Type 0
+Ends files words verdict trace = EndsWithWords files (meaning_of words) verdict trace
+
+pub record Outcome : Type 0 where
+  pub status : ℕ
+  pub out : List ℕ
+  pub err : List ℕ
+
+-- the outcome of words over files: there is one at most
+pub record IsOutcome (files : Files) (words : List (List ℕ)) (outcome : Outcome) : Type 0 where
+  pub verdict : Verdict
+  pub ends : Ends files words verdict outcome.out
+  pub status : outcome.status ≡ status_of verdict
+  pub message : outcome.err ≡ message_of verdict

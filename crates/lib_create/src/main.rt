@@ -1,0 +1,9 @@
+//! Compiles a synthesizable subset of SystemVerilog and simulates it in cycles with two-valued bits.
+#![tactic(auto)]
+
+mod order;
+mod reason;
+mod token;
+mod tree;
+
+fn main() {}
