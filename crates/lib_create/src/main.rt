@@ -4,6 +4,7 @@
 mod order;
 mod reason;
 mod token;
+mod trace;
 mod tree;
 
 fn main() {}
