@@ -3,6 +3,7 @@
 
 mod order;
 mod reason;
+mod spelling;
 mod token;
 mod trace;
 mod tree;
