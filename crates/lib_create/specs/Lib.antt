@@ -7,3 +7,5 @@ pub mod Order
 pub mod Outcome
 pub mod Answer
 pub mod CommandWords
+pub mod Loading
+pub mod Verdicts

@@ -2,6 +2,7 @@
 #![tactic(auto)]
 
 mod command;
+mod load;
 mod order;
 mod reason;
 mod spelling;
@@ -9,5 +10,6 @@ mod stop;
 mod token;
 mod trace;
 mod tree;
+mod verdict;
 
 fn main() {}

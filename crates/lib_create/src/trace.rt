@@ -10,7 +10,7 @@ use net_ir::Var;
 use std::alloc::{AllocError, Global};
 
 /// Adds a number in decimal digits.
-fn push_decimal(alloc: Global, text: &mut Vec<u8>, number: u64) -> Result<(), AllocError>
+pub fn push_decimal(alloc: Global, text: &mut Vec<u8>, number: u64) -> Result<(), AllocError>
     ensures { OnOk result (text.new.items ≡ text.old.items ++ decimal number) }
 {
     let digits = number.to_string(alloc)?;
