@@ -4,5 +4,6 @@ pub mod Run
 pub mod Solution
 pub mod Plain
 pub mod Pass
+pub mod Turns
 pub mod Text
 pub mod Trace
