@@ -1,8 +1,8 @@
 -- Worked values of the meanings, by computation.
-use Rattle.std.proofs.Common.{◌≡◌, ℕ, pos, negsuc, [], ◌∷◌, refl}
+use Rattle.std.proofs.Common.{◌≡◌, negsuc, [], ◌∷◌, refl}
 use Rattle.std.specs.Int.Count.{ones}
 use Rattle.bit_ops.specs.declared.operation.Op.TheVariants.{Const, Concat, LtS, Mux, Insert}
-use Rattle.bit_ops.specs.Meaning.{signed_of, word_of, sext_of, slice_of, concat_of, insert_of, not_of, neg_of, sub_of, div_u_of, div_s_of, mod_s_of, shl_of, shr_u_of, shr_s_of, lt_s_of, red_xor_of}
+use Rattle.bit_ops.specs.Meaning.{signed_of, word_of, sext_of, slice_of, insert_of, neg_of, sub_of, div_s_of, mod_s_of, shl_of, shr_s_of, lt_s_of, red_xor_of}
 use Rattle.bit_ops.specs.Rows.{value_of}
 
 least_of_8 : signed_of 8 128 ≡ negsuc 127
