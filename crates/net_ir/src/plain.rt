@@ -30,9 +30,9 @@ pub fn can_be_taken_in_order(alloc: Global, spec: &Spec) -> Result<bool, AllocEr
 
 /// Marks a driver's target as written, and tells whether it was no input and not marked before, and whether the
 /// driver reads nothing that is marked now.
-fn take_turn(driver: &Driver, vars: &[Var], written: &mut [bool]) -> bool
-    ensures marks { written.new ≡ mark_target driver.now written.old }
-    ensures free { result ≡ takes_turn vars.now driver.now written.old }
+fn take_turn(driver: &Driver, vars: &[Var], written: &mut Vec<bool>) -> bool
+    ensures marks { written.new.items ≡ mark_target driver.now written.old.items }
+    ensures free { result ≡ takes_turn vars.now driver.now written.old.items }
 {
     match driver {
         Driver::Assign { target, value, .. } => match target.var() {
@@ -75,8 +75,8 @@ fn is_free(vars: &[Var], written: &[bool], var: usize) -> bool
 }
 
 /// Marks a variable, where it is there.
-fn mark(written: &mut [bool], var: usize)
-    ensures { written.new ≡ slice_set written.old var true }
+fn mark(written: &mut Vec<bool>, var: usize)
+    ensures { written.new.items ≡ slice_set written.old.items var true }
 {
     if var < written.len() {
         written[var] = true;
