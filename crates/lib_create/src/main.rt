@@ -3,7 +3,10 @@
 
 mod order;
 mod reason;
+mod spelling;
+mod stop;
 mod token;
 mod tree;
+mod words;
 
 fn main() {}
