@@ -1,1 +1,2 @@
 pub mod StimulusWords
+pub mod StimulusSettings

@@ -1,8 +1,10 @@
 //! Compiles a synthesizable subset of SystemVerilog and simulates it in cycles with two-valued bits.
 #![tactic(auto)]
 
+mod line;
 mod order;
 mod reason;
+mod setting;
 mod spelling;
 mod stop;
 mod token;
