@@ -1,2 +1,3 @@
 pub mod StimulusWords
 pub mod StimulusSettings
+pub mod StimulusLines

@@ -3,7 +3,7 @@
 ghost use Rattle.std.specs.Prelude.{◌≡◌, [], length, not, IfOk, IsTrue};
 ghost use Rattle.std.specs.List.{AllByRecursion};
 ghost use Rattle.net_ir.specs.Plain.{HasVars};
-ghost use Rattle.lib_create.specs.Stimulus.{words_of, content_of, settings_of, meaning_of_settings, meaning_of_words, is_comment};
+ghost use Rattle.lib_create.specs.Stimulus.{without_cr, words_of, content_of, settings_of, meaning_of_settings, meaning_of_words, is_comment};
 ghost use Rattle.lib_create.specs.StimulusReading.{IsSettable, meaning_seen};
 
 use crate::reason::Reason;
@@ -23,14 +23,22 @@ pub enum Meaning<'a> {
     Refused(BadWord<'a>),
 }
 
+// The bytes without a CR at their end.
+fn without_cr(text: &[u8]) -> &[u8]
+    ensures { result.now ≡ without_cr text.now }
+{
+    if text.is_empty() {
+        return text;
+    }
+    let last = text.len() - 1;
+    if text[last] == b'\r' { &text[..last] } else { text }
+}
+
 // What a line says: a CR right before its LF is left out.
 fn content(line: &[u8], ended: bool) -> &[u8]
     ensures { result.now ≡ content_of (record { text = line.now; ended = ended }) }
 {
-    match line {
-        [front @ .., b'\r'] if ended => front,
-        _ => line,
-    }
+    if ended { without_cr(line) } else { line }
 }
 
 // Reads what the words of a text set, from left to right, up to the first that is wrong.
@@ -73,7 +81,7 @@ pub fn read_line<'a>(
 ) -> Result<Meaning<'a>, AllocError>
     requires { HasVars vars.now }
     ensures gives { IfOk result (λ meaning. meaning_seen settings.new.items meaning ≡ meaning_of_words vars.now (words_of (content_of (record { text = line.now; ended = ended })))) }
-    ensures settable { AllByRecursion (IsSettable vars.now) settings.old.items → AllByRecursion (IsSettable vars.now) settings.new.items }
+    ensures settable { IfOk result (λ meaning. meaning ≡ Meaning.Stepped → AllByRecursion (IsSettable vars.now) settings.new.items) }
 {
     let Some((word, rest)) = next_word(content(line, ended)) else {
         return Ok(Meaning::Skipped);
