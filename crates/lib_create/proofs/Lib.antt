@@ -1,1 +1,4 @@
 pub mod TraceText
+pub mod StimulusWords
+pub mod StimulusSettings
+pub mod StimulusLines

@@ -3,6 +3,7 @@ pub mod Command
 pub mod Grammar
 pub mod Design
 pub mod Stimulus
+pub mod StimulusReading
 pub mod Order
 pub mod Outcome
 pub mod Answer

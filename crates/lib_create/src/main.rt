@@ -5,11 +5,14 @@ mod command;
 mod load;
 mod order;
 mod reason;
+mod line;
+mod setting;
 mod spelling;
 mod stop;
 mod token;
 mod trace;
 mod tree;
 mod verdict;
+mod words;
 
 fn main() {}

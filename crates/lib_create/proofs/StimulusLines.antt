@@ -1,0 +1,98 @@
+-- What a line asks for.
+use Rattle.std.proofs.Common.{◌≡◌, ℕ, zero, suc, ◌+◌, ◌-◌, Bool, true, false, ◌==◌, List, [], ◌∷◌, ◌++◌, length, take, get_or, map, reverse, refl, sym, ap, subst, ◌∙◌, arith, Option, None, Some, Result, Ok, Err, if◌then◌else◌}
+use Rattle.std.specs.List.{AllByRecursion}
+use Rattle.std.proofs.lemmas.Bool.Decides.{nat_tests}
+use Rattle.std.proofs.lemmas.List.{reverse-append}
+use Rattle.net_ir.specs.declared.design.Var.{Var}
+use Rattle.net_ir.specs.Run.{Values, Setting as Assigned}
+use Rattle.lib_create.specs.declared.setting.Setting.{Setting}
+use Rattle.lib_create.specs.declared.setting.BadWord.{BadWord}
+use Rattle.lib_create.specs.Stimulus.{Fault, without_cr, words_of, setting_of, with_setting, after_setting, settings_of, meaning_of_settings, Stepped, Refused}
+use Rattle.lib_create.specs.StimulusReading.{setting_seen, settings_seen, inputs_set, fault_seen}
+
+-- ---- the CR
+
+pub cr_left : (n : ℕ) (xs : List ℕ) → length xs ≡ suc n → get_or xs n 0 ≡ 13 → take n xs ≡ without_cr xs
+cr_left n [] long is = absurd (omega arith)
+cr_left zero (x ∷ []) long is = rw is refl
+cr_left zero (x ∷ y ∷ xs) long is = absurd (omega arith)
+cr_left (suc n) (x ∷ []) long is = absurd (omega arith)
+cr_left (suc n) (x ∷ y ∷ xs) long is = ap (λ (ys : List ℕ). x ∷ ys) (cr_left n (y ∷ xs) (omega arith) is)
+
+no_cr : (x : ℕ) → (x ≡ 13 → ⊥) → x ∷ [] ≡ without_cr (x ∷ [])
+no_cr x apart = let is : (x == 13) ≡ false = grind (arith, nat_tests) in rw is refl
+
+pub cr_none : (n : ℕ) (xs : List ℕ) → length xs ≡ suc n → (get_or xs n 0 ≡ 13 → ⊥) → xs ≡ without_cr xs
+cr_none n [] long is = absurd (omega arith)
+cr_none zero (x ∷ []) long is = no_cr x is
+cr_none zero (x ∷ y ∷ xs) long is = absurd (omega arith)
+cr_none (suc n) (x ∷ []) long is = absurd (omega arith)
+cr_none (suc n) (x ∷ y ∷ xs) long is = ap (λ (ys : List ℕ). x ∷ ys) (cr_none n (y ∷ xs) (omega arith) is)
+
+pub not_empty : (xs : List ℕ) → (length xs == 0) ≡ false → length xs ≡ suc (length xs - 1)
+not_empty [] some = cc
+not_empty (x ∷ xs) some = omega arith
+
+-- ---- settings before others
+
+-- these settings in front of what else is set
+abbrev pub with_all : List Assigned → Result (List Assigned) Fault → Result (List Assigned) Fault
+with_all [] rest = rest
+with_all (s ∷ settings) rest = with_setting s (with_all settings rest)
+
+all_bad : (settings : List Assigned) (fault : Fault) → with_all settings (Err fault) ≡ Err fault
+all_bad [] fault = refl
+all_bad (s ∷ settings) fault = ap (with_setting s) (all_bad settings fault)
+
+all_good : (settings : List Assigned) → with_all settings (Ok []) ≡ Ok settings
+all_good [] = refl
+all_good (s ∷ settings) = ap (with_setting s) (all_good settings)
+
+all_more : (settings : List Assigned) (s : Assigned) (rest : Result (List Assigned) Fault) → with_all settings (with_setting s rest) ≡ with_all (settings ++ s ∷ []) rest
+all_more [] s rest = refl
+all_more (t ∷ settings) s rest = ap (with_setting t) (all_more settings s rest)
+
+seen_more : (settings : List Setting) (s : Setting) → settings_seen (settings ++ s ∷ []) ≡ settings_seen settings ++ setting_seen s ∷ []
+seen_more [] s = refl
+seen_more (t ∷ settings) s = ap (λ (ts : List Assigned). setting_seen t ∷ ts) (seen_more settings s)
+
+vars_more : (settings : List Setting) (s : Setting) → map (λ (t : Setting). t.var) (settings ++ s ∷ []) ≡ map (λ (t : Setting). t.var) settings ++ s.var ∷ []
+vars_more [] s = refl
+vars_more (t ∷ settings) s = ap (λ (ts : List ℕ). t.var ∷ ts) (vars_more settings s)
+
+inputs_more : (settings : List Setting) (s : Setting) → inputs_set (settings ++ s ∷ []) ≡ s.var ∷ inputs_set settings
+inputs_more settings s = ap reverse (vars_more settings s) ∙ reverse-append (map (λ (t : Setting). t.var) settings) (s.var ∷ [])
+
+pub all_settable : {X : Type 0} (P : X → Type 0) (xs : List X) (x : X) → AllByRecursion P xs → P x → AllByRecursion P (xs ++ x ∷ [])
+all_settable P [] x all here = (here, tt)
+all_settable P (y ∷ xs) x all here = (all.0, all_settable P xs x all.1 here)
+
+-- ---- the loop over the words
+
+-- so many settings were read, and the words that are left give the rest
+abbrev pub ReadSoFar : List Var → List Setting → List ℕ → List ℕ → Type 0
+ReadSoFar vars settings left text = with_all (settings_seen settings) (settings_of vars (inputs_set settings) (words_of left)) ≡ settings_of vars [] (words_of text)
+
+pub read_more : (vars : List Var) (settings given : List Setting) (s : Setting) (word rest left text : List ℕ) → words_of left ≡ word ∷ words_of rest → given ≡ settings → Ok (setting_seen s) ≡ setting_of vars (inputs_set given) word → ReadSoFar vars settings left text → ReadSoFar vars (settings ++ s ∷ []) rest text
+read_more vars settings given s word rest left text words given_is gives_given so_far =
+    let gives : Ok (setting_seen s) ≡ setting_of vars (inputs_set settings) word = gives_given ∙ ap (λ (set : List Setting). setting_of vars (inputs_set set) word) given_is in
+    let go : Assigned → Result (List Assigned) Fault = λ first. settings_of vars (first.var ∷ inputs_set settings) (words_of rest) in
+    let one : settings_of vars (inputs_set settings) (words_of left) ≡ with_setting (setting_seen s) (settings_of vars (s.var ∷ inputs_set settings) (words_of rest)) =
+      ap (settings_of vars (inputs_set settings)) words ∙ ap (λ (r : Result Assigned Fault). after_setting r go) (sym gives) in
+    let shown : with_all (settings_seen (settings ++ s ∷ [])) (settings_of vars (inputs_set (settings ++ s ∷ [])) (words_of rest)) ≡ with_all (settings_seen settings ++ setting_seen s ∷ []) (settings_of vars (s.var ∷ inputs_set settings) (words_of rest)) =
+      ap (λ (ss : List Assigned). with_all ss (settings_of vars (inputs_set (settings ++ s ∷ [])) (words_of rest))) (seen_more settings s)
+      ∙ ap (λ (set : List ℕ). with_all (settings_seen settings ++ setting_seen s ∷ []) (settings_of vars set (words_of rest))) (inputs_more settings s) in
+    shown ∙ sym (all_more (settings_seen settings) (setting_seen s) (settings_of vars (s.var ∷ inputs_set settings) (words_of rest)))
+    ∙ ap (with_all (settings_seen settings)) (sym one) ∙ so_far
+
+pub read_bad : (vars : List Var) (settings given : List Setting) (bad : BadWord) (word rest left text : List ℕ) → words_of left ≡ word ∷ words_of rest → given ≡ settings → Err (fault_seen bad) ≡ setting_of vars (inputs_set given) word → ReadSoFar vars settings left text → Refused (fault_seen bad) ≡ meaning_of_settings (settings_of vars [] (words_of text))
+read_bad vars settings given bad word rest left text words given_is gives_given so_far =
+    let gives : Err (fault_seen bad) ≡ setting_of vars (inputs_set settings) word = gives_given ∙ ap (λ (set : List Setting). setting_of vars (inputs_set set) word) given_is in
+    let go : Assigned → Result (List Assigned) Fault = λ first. settings_of vars (first.var ∷ inputs_set settings) (words_of rest) in
+    let one : settings_of vars (inputs_set settings) (words_of left) ≡ Err (fault_seen bad) =
+      ap (settings_of vars (inputs_set settings)) words ∙ ap (λ (r : Result Assigned Fault). after_setting r go) (sym gives) in
+    ap meaning_of_settings (sym (all_bad (settings_seen settings) (fault_seen bad)) ∙ ap (with_all (settings_seen settings)) (sym one) ∙ so_far)
+
+pub read_whole : (vars : List Var) (settings : List Setting) (left text : List ℕ) → words_of left ≡ [] → ReadSoFar vars settings left text → Stepped (Values (settings_seen settings)) ≡ meaning_of_settings (settings_of vars [] (words_of text))
+read_whole vars settings left text words so_far =
+    ap meaning_of_settings (sym (all_good (settings_seen settings)) ∙ ap (λ (ws : List (List ℕ)). with_all (settings_seen settings) (settings_of vars (inputs_set settings) ws)) (sym words) ∙ so_far)
