@@ -2,3 +2,4 @@ pub mod TraceText
 pub mod StimulusWords
 pub mod StimulusSettings
 pub mod StimulusLines
+pub mod BenchSteps

@@ -10,3 +10,7 @@ pub mod Answer
 pub mod CommandWords
 pub mod Loading
 pub mod Verdicts
+pub mod StimulusNext
+pub mod StimulusSource
+pub mod StimulusSteps
+pub mod Playing

@@ -1,6 +1,7 @@
 //! Compiles a synthesizable subset of SystemVerilog and simulates it in cycles with two-valued bits.
 #![tactic(auto)]
 
+mod bench;
 mod command;
 mod load;
 mod order;
@@ -11,6 +12,8 @@ mod spelling;
 mod stop;
 mod token;
 mod trace;
+mod found;
+mod step;
 mod tree;
 mod verdict;
 mod words;

@@ -1,0 +1,30 @@
+-- How far a run has come.
+use Rattle.std.specs.Prelude.{◌≡◌, ℕ, List, ◌++◌, Option, None, Some, ⊤}
+use Rattle.io_edge.specs.Told.{Added, AddedFront}
+use Rattle.net_ir.specs.declared.design.Spec.{Spec}
+use Rattle.net_ir.specs.Run.{State}
+use Rattle.net_ir.specs.Trace.{Shows, GoesOn}
+use Rattle.lib_create.specs.Stimulus.{BadLine, Script}
+
+-- the line of a step was added, or a front of it where the result is an error
+pub record Showed (spec : Spec) (number : ℕ) (state : State) (bytes : List ℕ) : Type 0 where
+  pub shows : Shows spec number state bytes
+
+-- what was to be played from a state on, and what is still to be played from the state of the step of this number: these bytes lie between
+pub record HasPlayed (spec : Spec) (first : State) (whole : Script) (bytes : List ℕ) (number : ℕ) (state : State) (rest : Script) : Type 0 where
+  -- what follows the rest follows the bytes
+  pub on : (tail : List ℕ) → GoesOn spec number state rest.steps tail → GoesOn spec 0 first whole.steps (bytes ++ tail)
+  -- and nothing else does
+  pub only : (all : List ℕ) → GoesOn spec 0 first whole.steps all → (tail : List ℕ) × GoesOn spec number state rest.steps tail × (all ≡ bytes ++ tail)
+  pub bad : rest.bad ≡ whole.bad
+
+-- the whole script was played: its lines were added, and this is its bad line
+pub record Played (spec : Spec) (first : State) (whole : Script) (before after : Option (List ℕ)) (bad : Option BadLine) : Type 0 where
+  pub bytes : List ℕ
+  pub goes_on : GoesOn spec 0 first whole.steps bytes
+  pub added : Added before after bytes
+  pub bad_line : bad ≡ whole.bad
+
+-- of all lines of the script, a front was added
+abbrev pub PlayedFront : Spec → State → Script → Option (List ℕ) → Option (List ℕ) → Type 0
+PlayedFront spec first whole before after = (all : List ℕ) → GoesOn spec 0 first whole.steps all → AddedFront before after all
