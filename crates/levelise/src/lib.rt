@@ -7,3 +7,6 @@ mod search;
 
 pub use graph::{Graph, LevelFault, levelling_excludes_cycles};
 pub use levels::order;
+
+#[cfg(test)]
+mod tests;
