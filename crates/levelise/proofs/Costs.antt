@@ -6,7 +6,9 @@ use Rattle.levelise.specs.Graph.{row_of}
 use Rattle.levelise.specs.Search.{mark_of, cost_of, cost_to_come}
 
 -- a node that is met costs nothing any more
-pub cost-set : (marks : List Mark) (rows : List (List ℕ)) (a p : ℕ) → a < length marks → a < length rows → mark_of marks a ≡ New → cost_to_come (set marks a (Open p)) rows + (2 + length (row_of rows a)) ≡ cost_to_come marks rows
+pub cost-set : (marks : List Mark) (rows : List (List ℕ)) (a p : ℕ) → a < length marks → a < length rows →
+    mark_of marks a ≡ New →
+    cost_to_come (set marks a (Open p)) rows + (2 + length (row_of rows a)) ≡ cost_to_come marks rows
 cost-set [] rows a p h inside new = absurd (omega arith)
 cost-set (m ∷ marks) [] a p h inside new = absurd (omega arith)
 cost-set (m ∷ marks) (row ∷ rows) zero p h inside new =
@@ -22,7 +24,9 @@ cost-le m (Open p) row keeps = omega arith
 cost-le m Done row keeps = omega arith
 
 -- where no node is forgotten, the rest costs no more
-pub cost_falls : (marks marks' : List Mark) (rows : List (List ℕ)) → length marks' ≡ length marks → ((a : ℕ) → mark_of marks' a ≡ New → mark_of marks a ≡ New) → cost_to_come marks' rows ≤ cost_to_come marks rows
+pub cost_falls : (marks marks' : List Mark) (rows : List (List ℕ)) → length marks' ≡ length marks →
+    ((a : ℕ) → mark_of marks' a ≡ New → mark_of marks a ≡ New) →
+    cost_to_come marks' rows ≤ cost_to_come marks rows
 cost_falls marks [] rows same keeps = omega arith
 cost_falls [] (m' ∷ marks') rows same keeps = absurd (omega arith)
 cost_falls (m ∷ marks) (m' ∷ marks') [] same keeps = omega arith

@@ -12,7 +12,8 @@ use Rattle.levelise.proofs.Marks.{front_inside, front_or_last, front_by_place, l
 
 module _ (rows : List (List ℕ)) (marks : List Mark) (path starts : List ℕ) (pending : List Edge) (done : List ℕ) (least : Option ℕ) (sound : IsConsistent rows marks path starts pending done least)
     (rest : List Edge) (e : Edge) (split : pending ≡ rest ++ e ∷ []) where
-  seen_dropped : mark_of marks e.to ≡ Done → (p b : ℕ) → IsSeen marks starts pending least p b → IsSeen marks starts rest least p b
+  seen_dropped : mark_of marks e.to ≡ Done → (p b : ℕ) → IsSeen marks starts pending least p b →
+      IsSeen marks starts rest least p b
   seen_dropped finished p b was =
       elim was [
         | inl waits ↦
@@ -75,7 +76,8 @@ module _ (rows : List (List ℕ)) (marks : List Mark) (path starts : List ℕ) (
               ]
         ]
 
-    back : (i j : ℕ) → i < j → j < length path → ((s : ℕ) → Contains fewer s → i < s → s ≤ j → ⊥) → Path rows (get_or path j 0) (get_or path i 0)
+    back : (i j : ℕ) → i < j → j < length path → ((s : ℕ) → Contains fewer s → i < s → s ≤ j → ⊥) →
+        Path rows (get_or path j 0) (get_or path i 0)
     back i j h within joined =
         elim (cases_lt q j) [
           | inl past ↦

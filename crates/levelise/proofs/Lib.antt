@@ -7,3 +7,4 @@ pub mod Settled
 pub mod Costs
 pub mod Steps
 pub mod Results
+pub mod Examples

@@ -28,18 +28,21 @@ Contains-take n xs a h =
     (h.0, omega (arith, short, h.1), sym (get_or-take n xs h.0 a before) ∙ h.2)
 
 -- an element of the list stands in a front that reaches past it
-pub Contains-take_at : {X : Type 0} (n : ℕ) (xs : List X) (k : ℕ) (d : X) → k < n → k < length xs → Contains (take n xs) (get_or xs k d)
+pub Contains-take_at : {X : Type 0} (n : ℕ) (xs : List X) (k : ℕ) (d : X) → k < n → k < length xs →
+    Contains (take n xs) (get_or xs k d)
 Contains-take_at n xs k d before inside =
     let short = length-take n xs in
     (k, omega (arith, short), get_or-take n xs k (get_or xs k d) before ∙ get_or_default xs k (get_or xs k d) d inside)
 
 -- one more element of the front is the next one of the list
-pub Contains-take_more : {X : Type 0} (xs : List X) (i : ℕ) (d a : X) → i < length xs → Contains (take (i + 1) xs) a → Contains (take i xs) a ⊎ (get_or xs i d ≡ a)
+pub Contains-take_more : {X : Type 0} (xs : List X) (i : ℕ) (d a : X) → i < length xs →
+    Contains (take (i + 1) xs) a → Contains (take i xs) a ⊎ (get_or xs i d ≡ a)
 Contains-take_more xs i d a h there =
     Contains-push_cases (take i xs) (get_or xs i d) a (subst (λ ys. Contains ys a) (take_more xs i d h) there)
 
 -- what stands in a list and is not its last element stands before that
-pub Contains-front : (xs : List ℕ) (x a : ℕ) → get_or xs (length xs - 1) 0 ≡ x → (a ≡ x → ⊥) → Contains xs a → Contains (take (length xs - 1) xs) a
+pub Contains-front : (xs : List ℕ) (x a : ℕ) → get_or xs (length xs - 1) 0 ≡ x → (a ≡ x → ⊥) → Contains xs a →
+    Contains (take (length xs - 1) xs) a
 Contains-front xs x a last other h =
     elim (cases_lt h.0 (length xs - 1)) [
       | inl before ↦ (h.0, omega (arith, length-take (length xs - 1) xs, h.1), get_or-take (length xs - 1) xs h.0 a before ∙ h.2)
@@ -55,7 +58,8 @@ Rises-take n xs rises i j h inside =
     rw (get_or-take n xs i 0 (omega arith), get_or-take n xs j 0 before) (rises i j h (omega (arith, short)))
 
 -- what stands in a front stands in a longer one
-pub front_grows : {X : Type 0} (xs : List X) (i : ℕ) (a : X) → Contains (take i xs) a → Contains (take (i + 1) xs) a
+pub front_grows : {X : Type 0} (xs : List X) (i : ℕ) (a : X) → Contains (take i xs) a →
+    Contains (take (i + 1) xs) a
 front_grows xs i a h =
     let short = length-take i xs in
     let long = length-take (i + 1) xs in
@@ -75,7 +79,8 @@ count_none a (x ∷ xs) out =
     ]
 
 -- what stands at one place alone is counted once
-pub count_single : (a : ℕ) (xs : List ℕ) (k : ℕ) → k < length xs → get_or xs k 0 ≡ a → ((i : ℕ) → i < length xs → get_or xs i 0 ≡ a → i ≡ k) → count_by (λ b. eqb b a) xs ≡ 1
+pub count_single : (a : ℕ) (xs : List ℕ) (k : ℕ) → k < length xs → get_or xs k 0 ≡ a →
+    ((i : ℕ) → i < length xs → get_or xs i 0 ≡ a → i ≡ k) → count_by (λ b. eqb b a) xs ≡ 1
 count_single a [] k inside here alone = absurd (omega arith)
 count_single a (x ∷ xs) zero inside here alone =
     let more : count_by (λ b. eqb b a) (x ∷ xs) ≡ cond (eqb x a) 1 0 + count_by (λ b. eqb b a) xs = sum_by-cons (λ b. cond (eqb b a) 1 0) x xs in
@@ -91,7 +96,8 @@ count_single a (x ∷ xs) (suc k) inside here alone =
     grind (arith, more, other, rest)
 
 -- a list whose last element is known, by the list without it
-pub last_split : {X : Type 0} (xs : List X) (x : X) (rest : List X) (n : ℕ) → IsLast xs x → n ≡ length xs → rest ≡ take (n - 1) xs → xs ≡ rest ++ x ∷ []
+pub last_split : {X : Type 0} (xs : List X) (x : X) (rest : List X) (n : ℕ) → IsLast xs x → n ≡ length xs →
+    rest ≡ take (n - 1) xs → xs ≡ rest ++ x ∷ []
 last_split xs x rest n last size cut =
     let long : length xs ≡ length last.0 + 1 = ap length last.1 ∙ length_push last.0 x in
     let same : rest ≡ last.0 = cut ∙ (ap (λ ys. take (n - 1) ys) last.1 ∙ take_at last.0 (x ∷ []) (n - 1) (omega arith)) in

@@ -24,14 +24,16 @@ pub same_place : (p q : ℕ) → Open p ≡ Open q → p ≡ q
 same_place p q e = cc
 
 -- an edge of a place leads from it to an element of its row
-pub edge_from_Contains : (n : ℕ) (row : List ℕ) (e : Edge) → Contains (edges_from n row) e → (e.from ≡ n) × Contains row e.to
+pub edge_from_Contains : (n : ℕ) (row : List ℕ) (e : Edge) → Contains (edges_from n row) e →
+    (e.from ≡ n) × Contains row e.to
 edge_from_Contains n row e h =
     let make : ℕ → Edge = λ b. record { from = n; to = b } in
     let inside : h.0 < length row = omega (arith, length-map row make, h.1) in
     let here : make (get_or row h.0 0) ≡ e = sym (get_or-map make row h.0 0 e inside) ∙ h.2 in
     (sym (ap (λ (x : Edge). x.from) here), subst (λ b. Contains row b) (ap (λ (x : Edge). x.to) here) (Contains-get_or row h.0 0 inside))
 
-pub Contains-edges_from : (n : ℕ) (row : List ℕ) (b : ℕ) → Contains row b → Contains (edges_from n row) (record { from = n; to = b })
+pub Contains-edges_from : (n : ℕ) (row : List ℕ) (b : ℕ) → Contains row b →
+    Contains (edges_from n row) (record { from = n; to = b })
 Contains-edges_from n row b h =
     let make : ℕ → Edge = λ b. record { from = n; to = b } in
     (h.0, omega (arith, length-map row make, h.1), get_or-map make row h.0 b (make b) h.1 ∙ ap make h.2)
@@ -79,16 +81,19 @@ noted_some None a e = none-some a (sym e)
 noted_some (Some n) a e = none-some (min n a) (sym e)
 
 -- all nodes of a part, noted in turn
-pub fold_noted_keeps : (part : List ℕ) (least : Option ℕ) (a : ℕ) → IsNoted least a → IsNoted (fold noted least part) a
+pub fold_noted_keeps : (part : List ℕ) (least : Option ℕ) (a : ℕ) → IsNoted least a →
+    IsNoted (fold noted least part) a
 fold_noted_keeps [] least a h = h
 fold_noted_keeps (x ∷ part) least a h = fold_noted_keeps part (noted least x) a (noted_more least x a h)
 
-pub fold_noted_each : (part : List ℕ) (least : Option ℕ) (k : ℕ) → k < length part → IsNoted (fold noted least part) (get_or part k 0)
+pub fold_noted_each : (part : List ℕ) (least : Option ℕ) (k : ℕ) → k < length part →
+    IsNoted (fold noted least part) (get_or part k 0)
 fold_noted_each [] least k h = absurd (omega arith)
 fold_noted_each (x ∷ part) least zero h = fold_noted_keeps part (noted least x) x (noted_itself least x)
 fold_noted_each (x ∷ part) least (suc k) h = fold_noted_each part (noted least x) k (omega arith)
 
-pub fold_noted_one_of : (part : List ℕ) (least : Option ℕ) (n : ℕ) → fold noted least part ≡ Some n → (least ≡ Some n) ⊎ Contains part n
+pub fold_noted_one_of : (part : List ℕ) (least : Option ℕ) (n : ℕ) → fold noted least part ≡ Some n →
+    (least ≡ Some n) ⊎ Contains part n
 fold_noted_one_of [] least n e = inl e
 fold_noted_one_of (x ∷ part) least n e =
     elim (fold_noted_one_of part (noted least x) n e) [
@@ -97,7 +102,8 @@ fold_noted_one_of (x ∷ part) least n e =
     ]
 
 -- what is known once a part of two or more is whole
-pub notes_part : (least : Option ℕ) (part : List ℕ) → 1 < length part → NotesPart least part (fold noted least part)
+pub notes_part : (least : Option ℕ) (part : List ℕ) → 1 < length part →
+    NotesPart least part (fold noted least part)
 notes_part least part two = record {
   keeps = λ a h. fold_noted_keeps part least a h;
   whole = λ _ a there. subst (λ x. IsNoted (fold noted least part) x) (get_or_default part there.0 0 a there.1 ∙ there.2) (fold_noted_each part least there.0 there.1);
@@ -105,7 +111,9 @@ notes_part least part two = record {
 }
 
 -- where the last edge leaves an earlier place, each does
-pub all_leave_before : (pending : List Edge) (start : ℕ) (e : Edge) → AreByPlace pending → slice_get pending (length pending - 1) ≡ Some e → e.from < start → All (λ (x : Edge). x.from < start) pending
+pub all_leave_before : (pending : List Edge) (start : ℕ) (e : Edge) → AreByPlace pending →
+    slice_get pending (length pending - 1) ≡ Some e → e.from < start →
+    All (λ (x : Edge). x.from < start) pending
 all_leave_before pending start e by_place last low k d h =
     let here : (get_or pending (length pending - 1) d).from ≡ e.from = ap (λ (x : Edge). x.from) (get_or_from_slice_get pending (length pending - 1) e d last) in
     elim (cases_lt k (length pending - 1)) [

@@ -29,7 +29,8 @@ module _ (rows : List (List ℕ)) (marks : List Mark) (path starts : List ℕ) (
   not_node : (b : ℕ) (m : Mark) → mark_of marks b ≡ m → (m ≡ New → ⊥) → b ≡ a → ⊥
   not_node b m e met same = met (sym e ∙ (ap (λ x. mark_of marks x) same ∙ new))
 
-  kept : (b : ℕ) (m : Mark) → mark_of marks b ≡ m → (m ≡ New → ⊥) → mark_of (set marks a (Open (length path))) b ≡ m
+  kept : (b : ℕ) (m : Mark) → mark_of marks b ≡ m → (m ≡ New → ⊥) →
+      mark_of (set marks a (Open (length path))) b ≡ m
   kept b m e met = elsewhere b (not_node b m e met) ∙ e
 
   done_before : (b : ℕ) → mark_of (set marks a (Open (length path))) b ≡ Done → mark_of marks b ≡ Done
@@ -59,14 +60,16 @@ module _ (rows : List (List ℕ)) (marks : List Mark) (path starts : List ℕ) (
         | inr past ↦ inr (omega (arith, length_path))
       ]
 
-  placed : (p : ℕ) → p < length (path ++ a ∷ []) → mark_of (set marks a (Open (length path))) (get_or (path ++ a ∷ []) p 0) ≡ Open p
+  placed : (p : ℕ) → p < length (path ++ a ∷ []) →
+      mark_of (set marks a (Open (length path))) (get_or (path ++ a ∷ []) p 0) ≡ Open p
   placed p h =
       elim (place_cases p h) [
         | inl before ↦ rw (at_old p before) (kept (get_or path p 0) (Open p) (sound.placed p before) (λ same. cc))
         | inr last ↦ rw (last, at_new) at_node
       ]
 
-  open_stands : (b p : ℕ) → mark_of (set marks a (Open (length path))) b ≡ Open p → (p < length (path ++ a ∷ [])) × (get_or (path ++ a ∷ []) p 0 ≡ b)
+  open_stands : (b p : ℕ) → mark_of (set marks a (Open (length path))) b ≡ Open p →
+      (p < length (path ++ a ∷ [])) × (get_or (path ++ a ∷ []) p 0 ≡ b)
   open_stands b p e =
       elim (cases_eq b a) [
         | inl same ↦
@@ -103,7 +106,8 @@ module _ (rows : List (List ℕ)) (marks : List Mark) (path starts : List ℕ) (
         | inr some ↦ Contains-append_left starts (length path ∷ []) 0 (sound.starts_at_zero (omega arith))
       ]
 
-  edges : (e : Edge) → Contains (rest ++ edges_from (length path) (row_of rows a)) e → (e.from < length (path ++ a ∷ [])) × Reads rows (get_or (path ++ a ∷ []) e.from 0) e.to
+  edges : (e : Edge) → Contains (rest ++ edges_from (length path) (row_of rows a)) e →
+      (e.from < length (path ++ a ∷ [])) × Reads rows (get_or (path ++ a ∷ []) e.from 0) e.to
   edges e h =
       elim (Contains-append_cases rest (edges_from (length path) (row_of rows a)) e h) [
         | inl before ↦
@@ -114,7 +118,9 @@ module _ (rows : List (List ℕ)) (marks : List Mark) (path starts : List ℕ) (
             (omega (arith, length_path, here.0), subst (λ x. Reads rows x e.to) (sym (ap (λ x. get_or (path ++ a ∷ []) x 0) here.0 ∙ at_new)) here.1)
       ]
 
-  place_of_new : (j : ℕ) (d : Edge) → length rest ≤ j → j < length (rest ++ edges_from (length path) (row_of rows a)) → (get_or (rest ++ edges_from (length path) (row_of rows a)) j d).from ≡ length path
+  place_of_new : (j : ℕ) (d : Edge) → length rest ≤ j →
+      j < length (rest ++ edges_from (length path) (row_of rows a)) →
+      (get_or (rest ++ edges_from (length path) (row_of rows a)) j d).from ≡ length path
   place_of_new j d past within =
       let more = edges_from (length path) (row_of rows a) in
       let make : ℕ → Edge = λ b. record { from = length path; to = b } in
@@ -136,21 +142,25 @@ module _ (rows : List (List ℕ)) (marks : List Mark) (path starts : List ℕ) (
         | inr past ↦ omega (arith, place_of_new i d past (omega arith), place_of_new j d (omega arith) within)
       ]
 
-  forth : (p q : ℕ) → p < q → q < length (path ++ a ∷ []) → Path rows (get_or (path ++ a ∷ []) p 0) (get_or (path ++ a ∷ []) q 0)
+  forth : (p q : ℕ) → p < q → q < length (path ++ a ∷ []) →
+      Path rows (get_or (path ++ a ∷ []) p 0) (get_or (path ++ a ∷ []) q 0)
   forth p q h within =
       elim (place_cases q within) [
         | inl before ↦ rw (at_old p (omega arith), at_old q before) (sound.forth p q h before)
         | inr last ↦ rw (last, at_new, at_old p (omega arith)) (reach p (omega arith))
       ]
 
-  back : (p q : ℕ) → p < q → q < length (path ++ a ∷ []) → ((s : ℕ) → Contains (starts ++ length path ∷ []) s → p < s → s ≤ q → ⊥) → Path rows (get_or (path ++ a ∷ []) q 0) (get_or (path ++ a ∷ []) p 0)
+  back : (p q : ℕ) → p < q → q < length (path ++ a ∷ []) →
+      ((s : ℕ) → Contains (starts ++ length path ∷ []) s → p < s → s ≤ q → ⊥) →
+      Path rows (get_or (path ++ a ∷ []) q 0) (get_or (path ++ a ∷ []) p 0)
   back p q h within joined =
       elim (place_cases q within) [
         | inl before ↦ rw (at_old p (omega arith), at_old q before) (sound.back p q h before (λ s there. joined s (Contains-append_left starts (length path ∷ []) s there)))
         | inr last ↦ absurd (joined (length path) (Contains-push starts (length path)) (omega arith) (omega arith))
       ]
 
-  seen_before : (p b : ℕ) → p < length path → IsSeen marks starts pending least p b → IsSeen (set marks a (Open (length path))) (starts ++ length path ∷ []) (rest ++ edges_from (length path) (row_of rows a)) least p b
+  seen_before : (p b : ℕ) → p < length path → IsSeen marks starts pending least p b →
+      IsSeen (set marks a (Open (length path))) (starts ++ length path ∷ []) (rest ++ edges_from (length path) (row_of rows a)) least p b
   seen_before p b h was =
       let more = edges_from (length path) (row_of rows a) in
       elim was [
@@ -182,7 +192,8 @@ module _ (rows : List (List ℕ)) (marks : List Mark) (path starts : List ℕ) (
             ]
       ]
 
-  seen : (p b : ℕ) → p < length (path ++ a ∷ []) → Reads rows (get_or (path ++ a ∷ []) p 0) b → IsSeen (set marks a (Open (length path))) (starts ++ length path ∷ []) (rest ++ edges_from (length path) (row_of rows a)) least p b
+  seen : (p b : ℕ) → p < length (path ++ a ∷ []) → Reads rows (get_or (path ++ a ∷ []) p 0) b →
+      IsSeen (set marks a (Open (length path))) (starts ++ length path ∷ []) (rest ++ edges_from (length path) (row_of rows a)) least p b
   seen p b h r =
       let more = edges_from (length path) (row_of rows a) in
       elim (place_cases p h) [

@@ -27,7 +27,8 @@ node_from_Path {rows} {a} {b} (longer r p) = node_from_Reads rows _ _ r
 
 module _ (rows : List (List ℕ)) (order : List ℕ) (levelled : IsLevelling rows order) where
   -- what the node at a place of a levelling reads stands at an earlier one
-  one_earlier : {a b : ℕ} → Reads rows a b → (k : ℕ) → k < length order → get_or order k 0 ≡ a → (j : ℕ) × (j < k) × (j < length order) × (get_or order j 0 ≡ b)
+  one_earlier : {a b : ℕ} → Reads rows a b → (k : ℕ) → k < length order → get_or order k 0 ≡ a →
+      (j : ℕ) × (j < k) × (j < length order) × (get_or order j 0 ≡ b)
   one_earlier {a} {b} r k h e =
       let there : Reads rows (get_or order k 0) b = subst (λ x. Reads rows x b) (sym e) r in
       let found : Contains (take k order) b = levelled.after_reads k h b there in
@@ -36,7 +37,8 @@ module _ (rows : List (List ℕ)) (order : List ℕ) (levelled : IsLevelling row
       let inside : found.0 < length order = omega (arith, short, found.1) in
       (found.0, before, inside, get_or_default order found.0 0 b inside ∙ (sym (get_or-take k order found.0 b before) ∙ found.2))
 
-  earlier : {a b : ℕ} → Path rows a b → (k : ℕ) → k < length order → get_or order k 0 ≡ a → (j : ℕ) × (j < k) × (j < length order) × (get_or order j 0 ≡ b)
+  earlier : {a b : ℕ} → Path rows a b → (k : ℕ) → k < length order → get_or order k 0 ≡ a →
+      (j : ℕ) × (j < k) × (j < length order) × (get_or order j 0 ≡ b)
   earlier (step r) k h e = one_earlier r k h e
   earlier (longer r p) k h e =
       let first = one_earlier r k h e in

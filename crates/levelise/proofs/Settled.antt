@@ -85,7 +85,8 @@ module _ (rows : List (List ℕ)) (marks : List Mark) (path starts : List ℕ) (
       subst (λ x. Contains (drop start path) x) (get_or-drop start path (p - start) 0 ∙ ap (λ k. get_or path k 0) there)
       (Contains-get_or (drop start path) (p - start) 0 (omega (arith, length_part)))
 
-  part_place : (a : ℕ) → Contains (drop start path) a → (p : ℕ) × (start ≤ p) × (p < length path) × (mark_of marks a ≡ Open p)
+  part_place : (a : ℕ) → Contains (drop start path) a →
+      (p : ℕ) × (start ≤ p) × (p < length path) × (mark_of marks a ≡ Open p)
   part_place a h =
       let within : start + h.0 < length path = omega (arith, length_part, h.1) in
       let here : get_or path (start + h.0) 0 ≡ a = sym (get_or-drop start path h.0 0) ∙ (get_or_default (drop start path) h.0 0 a h.1 ∙ h.2) in
@@ -95,8 +96,10 @@ module _ (rows : List (List ℕ)) (marks : List Mark) (path starts : List ℕ) (
   data Fate (a : ℕ) : Type 0 where
     stays_new : mark_of marks a ≡ New → mark_of marks' a ≡ New → (Contains (drop start path) a → ⊥) → Fate a
     was_done : mark_of marks a ≡ Done → mark_of marks' a ≡ Done → (Contains (drop start path) a → ⊥) → Fate a
-    stays_open : (p : ℕ) → mark_of marks a ≡ Open p → p < start → mark_of marks' a ≡ Open p → (Contains (drop start path) a → ⊥) → Fate a
-    gets_done : (p : ℕ) → mark_of marks a ≡ Open p → start ≤ p → p < length path → get_or path p 0 ≡ a → mark_of marks' a ≡ Done → Fate a
+    stays_open : (p : ℕ) → mark_of marks a ≡ Open p → p < start → mark_of marks' a ≡ Open p →
+        (Contains (drop start path) a → ⊥) → Fate a
+    gets_done : (p : ℕ) → mark_of marks a ≡ Open p → start ≤ p → p < length path → get_or path p 0 ≡ a →
+        mark_of marks' a ≡ Done → Fate a
 
   not_open : (a : ℕ) → ((p : ℕ) → mark_of marks a ≡ Open p → ⊥) → Contains (drop start path) a → ⊥
   not_open a closed there = let here = part_place a there in closed here.0 here.3
@@ -141,7 +144,8 @@ module _ (rows : List (List ℕ)) (marks : List Mark) (path starts : List ℕ) (
       let stands : mark_of marks (get_or path p 0) ≡ Open p = sound.placed p (omega (arith, start_inside)) in
       rw (at_old p low) (others (get_or path p 0) (below (get_or path p 0) p stands low) ∙ stands)
 
-  open_stands : (a p : ℕ) → mark_of marks' a ≡ Open p → (p < length (take start path)) × (get_or (take start path) p 0 ≡ a)
+  open_stands : (a p : ℕ) → mark_of marks' a ≡ Open p →
+      (p < length (take start path)) × (get_or (take start path) p 0 ≡ a)
   open_stands a p e =
       elim (fate a) [
         | stays_new was now out ↦ absurd (cc)
@@ -153,10 +157,12 @@ module _ (rows : List (List ℕ)) (marks : List Mark) (path starts : List ℕ) (
         | gets_done q was low high here now ↦ absurd (cc)
       ]
 
-  count_both : (a : ℕ) → count_by (λ b. eqb b a) (done ++ drop start path) ≡ count_by (λ b. eqb b a) done + count_by (λ b. eqb b a) (drop start path)
+  count_both : (a : ℕ) →
+      count_by (λ b. eqb b a) (done ++ drop start path) ≡ count_by (λ b. eqb b a) done + count_by (λ b. eqb b a) (drop start path)
   count_both a = sum_by-append (λ b. cond (eqb b a) 1 0) done (drop start path)
 
-  part_once : (a p : ℕ) → mark_of marks a ≡ Open p → start ≤ p → p < length path → get_or path p 0 ≡ a → count_by (λ b. eqb b a) (drop start path) ≡ 1
+  part_once : (a p : ℕ) → mark_of marks a ≡ Open p → start ≤ p → p < length path → get_or path p 0 ≡ a →
+      count_by (λ b. eqb b a) (drop start path) ≡ 1
   part_once a p stands low high here =
       let there : start + (p - start) ≡ p = omega arith in
       count_single a (drop start path) (p - start) (omega (arith, length_part))
@@ -194,15 +200,18 @@ module _ (rows : List (List ℕ)) (marks : List Mark) (path starts : List ℕ) (
         | inr here ↦ absurd (omega (arith, length_path))
       ]
 
-  edges : (e : Edge) → Contains pending e → (e.from < length (take start path)) × Reads rows (get_or (take start path) e.from 0) e.to
+  edges : (e : Edge) → Contains pending e →
+      (e.from < length (take start path)) × Reads rows (get_or (take start path) e.from 0) e.to
   edges e h =
       (omega (arith, length_path, followed e h), subst (λ x. Reads rows x e.to) (sym (at_old e.from (followed e h))) (sound.edges e h).1)
 
-  forth : (p q : ℕ) → p < q → q < length (take start path) → Path rows (get_or (take start path) p 0) (get_or (take start path) q 0)
+  forth : (p q : ℕ) → p < q → q < length (take start path) →
+      Path rows (get_or (take start path) p 0) (get_or (take start path) q 0)
   forth p q h within =
       rw (at_old p (omega (arith, length_path)), at_old q (omega (arith, length_path))) (sound.forth p q h (omega (arith, length_path, start_inside)))
 
-  back : (p q : ℕ) → p < q → q < length (take start path) → ((s : ℕ) → Contains before s → p < s → s ≤ q → ⊥) → Path rows (get_or (take start path) q 0) (get_or (take start path) p 0)
+  back : (p q : ℕ) → p < q → q < length (take start path) → ((s : ℕ) → Contains before s → p < s → s ≤ q → ⊥) →
+      Path rows (get_or (take start path) q 0) (get_or (take start path) p 0)
   back p q h within joined =
       rw (at_old p (omega (arith, length_path)), at_old q (omega (arith, length_path)))
       (sound.back p q h (omega (arith, length_path, start_inside)) (λ s there low high.
@@ -232,7 +241,8 @@ module _ (rows : List (List ℕ)) (marks : List Mark) (path starts : List ℕ) (
             ]
       ]
 
-  seen : (p b : ℕ) → p < length (take start path) → Reads rows (get_or (take start path) p 0) b → IsSeen marks' before pending least' p b
+  seen : (p b : ℕ) → p < length (take start path) → Reads rows (get_or (take start path) p 0) b →
+      IsSeen marks' before pending least' p b
   seen p b h r =
       let low : p < start = omega (arith, length_path) in
       seen_still p b (sound.seen p b (omega (arith, start_inside)) (subst (λ x. Reads rows x b) (at_old p low) r))
@@ -240,7 +250,8 @@ module _ (rows : List (List ℕ)) (marks : List Mark) (path starts : List ℕ) (
   -- what a node of the part reads is done or in the part
   data Target (p b : ℕ) : Type 0 where
     to_done : mark_of marks b ≡ Done → Target p b
-    to_part : (q : ℕ) → mark_of marks b ≡ Open q → start ≤ q → q < length path → get_or path q 0 ≡ b → (p < q) ⊎ IsNoted least b → Target p b
+    to_part : (q : ℕ) → mark_of marks b ≡ Open q → start ≤ q → q < length path → get_or path q 0 ≡ b →
+        (p < q) ⊎ IsNoted least b → Target p b
 
   target : (p b : ℕ) → start ≤ p → p < length path → Reads rows (get_or path p 0) b → Target p b
   target p b low high r =
@@ -272,7 +283,8 @@ module _ (rows : List (List ℕ)) (marks : List Mark) (path starts : List ℕ) (
   joined_back p q low h high = sound.back p q h high (λ s there above up. let under = starts_up_to s there in omega arith)
 
   -- each node of a part of two or more lies on a cycle
-  on_cycle : (p : ℕ) → 1 < length (drop start path) → start ≤ p → p < length path → LiesOnCycle rows (get_or path p 0)
+  on_cycle : (p : ℕ) → 1 < length (drop start path) → start ≤ p → p < length path →
+      LiesOnCycle rows (get_or path p 0)
   on_cycle p two low high =
       elim (cases_lt start p) [
         | inl above ↦ path_joined (joined_back start p (omega arith) above high) (sound.forth start p above high)
@@ -291,7 +303,8 @@ module _ (rows : List (List ℕ)) (marks : List Mark) (path starts : List ℕ) (
       ]
 
   -- a node that is a part by itself lies on a cycle only where it is noted
-  alone_noted : (p a : ℕ) → length (drop start path) ≤ 1 → mark_of marks a ≡ Open p → start ≤ p → p < length path → get_or path p 0 ≡ a → LiesOnCycle rows a → IsNoted least a
+  alone_noted : (p a : ℕ) → length (drop start path) ≤ 1 → mark_of marks a ≡ Open p → start ≤ p →
+      p < length path → get_or path p 0 ≡ a → LiesOnCycle rows a → IsNoted least a
   alone_noted p a one stands low high here cycle =
       elim (first_step cycle) [
         | begins c r rest ↦
@@ -332,7 +345,8 @@ module _ (rows : List (List ℕ)) (marks : List Mark) (path starts : List ℕ) (
         | inr one ↦ one
       ]
 
-  levelled : least' ≡ None → (k : ℕ) → k < length (done ++ drop start path) → (b : ℕ) → Reads rows (get_or (done ++ drop start path) k 0) b → Contains (take k (done ++ drop start path)) b
+  levelled : least' ≡ None → (k : ℕ) → k < length (done ++ drop start path) → (b : ℕ) →
+      Reads rows (get_or (done ++ drop start path) k 0) b → Contains (take k (done ++ drop start path)) b
   levelled e k h b r =
       let part = drop start path in
       elim (cases_lt k (length done)) [

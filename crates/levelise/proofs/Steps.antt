@@ -17,7 +17,10 @@ use Rattle.levelise.proofs.Costs.{cost-set, cost_falls}
 use Rattle.levelise.proofs.Settled.{settled_part, keeps_met}
 
 -- lists that are equal are as good
-pub consistent_at : (rows : List (List ℕ)) (marks marks' : List Mark) (path path' starts starts' : List ℕ) (pending pending' : List Edge) (done done' : List ℕ) (least least' : Option ℕ) → marks' ≡ marks → path' ≡ path → starts' ≡ starts → pending' ≡ pending → done' ≡ done → least' ≡ least → IsConsistent rows marks path starts pending done least → IsConsistent rows marks' path' starts' pending' done' least'
+pub consistent_at : (rows : List (List ℕ)) (marks marks' : List Mark) (path path' starts starts' : List ℕ) (pending pending' : List Edge) (done done' : List ℕ) (least least' : Option ℕ) →
+    marks' ≡ marks → path' ≡ path → starts' ≡ starts → pending' ≡ pending → done' ≡ done → least' ≡ least →
+    IsConsistent rows marks path starts pending done least →
+    IsConsistent rows marks' path' starts' pending' done' least'
 consistent_at rows marks marks' path path' starts starts' pending pending' done done' least least' m p s e d l sound =
     subst (λ x. IsConsistent rows x path' starts' pending' done' least') (sym m)
     (subst (λ x. IsConsistent rows marks x starts' pending' done' least') (sym p)
@@ -56,7 +59,8 @@ module _ (rows : List (List ℕ)) (old new : Search) (pending : List Edge) (e : 
             ]
       ]
 
-  cover : (p b : ℕ) → p < length old.path.items → Contains pending (record { from = p; to = b }) → Contains old.pending.items (record { from = p; to = b }) ⊎ (b ≡ e.to)
+  cover : (p b : ℕ) → p < length old.path.items → Contains pending (record { from = p; to = b }) →
+      Contains old.pending.items (record { from = p; to = b }) ⊎ (b ≡ e.to)
   cover p b h waits =
       elim (front_or_last pending old.pending.items e split (record { from = p; to = b }) waits) [
         | inl still ↦ inl still
@@ -80,14 +84,16 @@ module _ (rows : List (List ℕ)) (old new : Search) (pending : List Edge) (e : 
       omega (arith, cost, left, fewer, more, row, parts)
 
 -- a node is put on the empty path
-pub opened_first : (rows : List (List ℕ)) (old new : Search) (a : ℕ) → IsSound rows old → old.path.items ≡ [] → a < length rows → mark_of old.marks.items a ≡ New → Opens rows old new a → IsSound rows new
+pub opened_first : (rows : List (List ℕ)) (old new : Search) (a : ℕ) → IsSound rows old → old.path.items ≡ [] →
+    a < length rows → mark_of old.marks.items a ≡ New → Opens rows old new a → IsSound rows new
 opened_first rows old new a sound none node unmet opens =
     let empty : length old.path.items ≡ 0 = ap length none in
     consistent_at rows _ new.marks.items _ new.path.items _ new.starts.items _ new.pending.items _ new.done.items _ new.least opens.marks opens.path opens.starts opens.pending opens.done opens.least
     (opened rows old.marks.items old.path.items old.starts.items old.pending.items old.done.items old.least sound a node unmet old.pending.items (λ e there. there) sound.by_place (λ p b h there. inl there) (λ p h. absurd (omega arith)))
 
 -- the last edge leads to a node
-pub edge_node : (rows : List (List ℕ)) (s : Search) (e : Edge) → ReadsOnlyNodes rows → IsSound rows s → IsLast s.pending.items e → e.to < length rows
+pub edge_node : (rows : List (List ℕ)) (s : Search) (e : Edge) → ReadsOnlyNodes rows → IsSound rows s →
+    IsLast s.pending.items e → e.to < length rows
 edge_node rows s e only sound last =
     read_node rows (get_or s.path.items e.from 0) e.to only (sound.edges e (last_inside s.pending.items last.0 e last.1)).1
 
@@ -99,7 +105,8 @@ node_from_mark marks a met =
       | inr past ↦ absurd (met (get_or_past marks a New past))
     ]
 
-pub path_nodes : (rows : List (List ℕ)) (s : Search) → IsSound rows s → All (λ a. a < length s.marks.items) s.path.items
+pub path_nodes : (rows : List (List ℕ)) (s : Search) → IsSound rows s →
+    All (λ a. a < length s.marks.items) s.path.items
 path_nodes rows s sound =
     All-from_get_or (λ a. a < length s.marks.items) s.path.items 0 (λ p h.
     node_from_mark s.marks.items (get_or s.path.items p 0) (λ unmet. let stands = sound.placed p h in let bad : ⊥ = cc in bad))
@@ -119,7 +126,8 @@ module _ (rows : List (List ℕ)) (old : Search) (sound : IsSound rows old) (sta
   each_settled : (a : ℕ) → Contains (drop start old.path.items) a → mark_of marks a ≡ Done
   each_settled = subst (λ xs. (a : ℕ) → Contains xs a → mark_of marks a ≡ Done) whole settled
 
-  each_other : (a : ℕ) → (Contains (drop start old.path.items) a → ⊥) → mark_of marks a ≡ mark_of old.marks.items a
+  each_other : (a : ℕ) → (Contains (drop start old.path.items) a → ⊥) →
+      mark_of marks a ≡ mark_of old.marks.items a
   each_other = subst (λ xs. (a : ℕ) → (Contains xs a → ⊥) → mark_of marks a ≡ mark_of old.marks.items a) whole others
 
   pub settled_next : IsConsistent rows marks (take start old.path.items) starts old.pending.items (old.done.items ++ part) least
@@ -136,7 +144,9 @@ module _ (rows : List (List ℕ)) (old : Search) (sound : IsSound rows old) (sta
       omega (arith, fewer, cost)
 
 -- once the path is empty, each node that was met is done
-pub all_done : (rows : List (List ℕ)) (s : Search) → IsSound rows s → s.path.items ≡ [] → ((a : ℕ) → a < length rows → mark_of s.marks.items a ≡ New → ⊥) → (a : ℕ) → a < length rows → mark_of s.marks.items a ≡ Done
+pub all_done : (rows : List (List ℕ)) (s : Search) → IsSound rows s → s.path.items ≡ [] →
+    ((a : ℕ) → a < length rows → mark_of s.marks.items a ≡ New → ⊥) → (a : ℕ) → a < length rows →
+    mark_of s.marks.items a ≡ Done
 all_done rows s sound none met a h =
     elim (kind_of (mark_of s.marks.items a)) [
       | is_new e ↦ absurd (met a h e)
@@ -147,6 +157,7 @@ all_done rows s sound none met a h =
     ]
 
 -- a part begins on the path
-pub start_on_path : (rows : List (List ℕ)) (s : Search) (start : ℕ) → IsSound rows s → IsLast s.starts.items start → start < length s.path.items
+pub start_on_path : (rows : List (List ℕ)) (s : Search) (start : ℕ) → IsSound rows s →
+    IsLast s.starts.items start → start < length s.path.items
 start_on_path rows s start sound last =
     sound.starts_inside start (subst (λ xs. Contains xs start) (sym last.1) (Contains-push last.0 start))

@@ -27,7 +27,8 @@ pub record IsLeastOnCycle (rows : List (List ℕ)) (a : ℕ) : Type 0 where
 pub record IsLevelling (rows : List (List ℕ)) (order : List ℕ) : Type 0 where
   pub only_nodes : All (λ a. a < length rows) order
   pub each_once : (a : ℕ) → a < length rows → count_by (λ b. b == a) order ≡ 1
-  pub after_reads : (k : ℕ) → k < length order → (b : ℕ) → Reads rows (slice_index order k) b → Contains (take k order) b
+  pub after_reads : (k : ℕ) → k < length order → (b : ℕ) → Reads rows (slice_index order k) b →
+      Contains (take k order) b
 
 -- the rows can be numbered by a u32
 abbrev pub HasFewRows : List (List ℕ) → Type 0

@@ -29,16 +29,23 @@ Rises starts = (i j : ℕ) → i < j → j < length starts → slice_index start
 
 -- the edges stand in the order of the places that they leave
 abbrev pub AreByPlace : List Edge → Type 0
-AreByPlace pending = (i j : ℕ) (d : Edge) → i < j → j < length pending → (slice_index_or pending i d).from ≤ (slice_index_or pending j d).from
+AreByPlace pending =
+    (i j : ℕ) (d : Edge) → i < j → j < length pending →
+    (slice_index_or pending i d).from ≤ (slice_index_or pending j d).from
 
--- an edge from this place to b is still to be followed, or leads to a node that is done, or stays in its part or goes to a later one, and if it does not go to a later place then b is noted
+-- the edge from a place to b is still to be followed, or leads to a node that is done, or to one on the path:
+-- in the part of the place or a later part, and b is noted unless it stands at a later place
 abbrev pub IsSeen : List Mark → List ℕ → List Edge → Option ℕ → ℕ → ℕ → Type 0
 IsSeen marks starts pending least place b =
     Contains pending (record { from = place; to = b })
     ⊎ ((mark_of marks b ≡ Done)
-    ⊎ ((q : ℕ) × (mark_of marks b ≡ Open q) × ((s : ℕ) → Contains starts s → s ≤ place → s ≤ q) × ((place < q) ⊎ IsNoted least b)))
+    ⊎ ((q : ℕ) × (mark_of marks b ≡ Open q) × ((s : ℕ) → Contains starts s → s ≤ place → s ≤ q)
+    × ((place < q) ⊎ IsNoted least b)))
 
--- what holds of the marks, the path, the starts of its parts, the edges to follow, the nodes that are done and the least node on a cycle
+-- what holds between two steps: of the marks, the path and the starts of its parts, the edges to follow, the
+-- nodes that are done, and the least node on a cycle. Each place of the path leads to each later one, and back to
+-- an earlier one where no part starts between; what a done node reads is done; and without a cycle the done nodes
+-- are levelled
 pub record IsConsistent (rows : List (List ℕ)) (marks : List Mark) (path starts : List ℕ) (pending : List Edge) (done : List ℕ) (least : Option ℕ) : Type 0 where
   pub sized : length marks ≡ length rows
   pub placed : (p : ℕ) → p < length path → mark_of marks (slice_index path p) ≡ Open p
@@ -51,12 +58,14 @@ pub record IsConsistent (rows : List (List ℕ)) (marks : List Mark) (path start
   pub edges : (e : Edge) → Contains pending e → (e.from < length path) × Reads rows (slice_index path e.from) e.to
   pub by_place : AreByPlace pending
   pub forth : (p q : ℕ) → p < q → q < length path → Path rows (slice_index path p) (slice_index path q)
-  pub back : (p q : ℕ) → p < q → q < length path → ((s : ℕ) → Contains starts s → p < s → s ≤ q → ⊥) → Path rows (slice_index path q) (slice_index path p)
+  pub back : (p q : ℕ) → p < q → q < length path → ((s : ℕ) → Contains starts s → p < s → s ≤ q → ⊥) →
+      Path rows (slice_index path q) (slice_index path p)
   pub seen : (p b : ℕ) → p < length path → Reads rows (slice_index path p) b → IsSeen marks starts pending least p b
   pub closed : (a b : ℕ) → mark_of marks a ≡ Done → Reads rows a b → mark_of marks b ≡ Done
   pub least_found : (n : ℕ) → least ≡ Some n → LiesOnCycle rows n
   pub least_noted : (a : ℕ) → mark_of marks a ≡ Done → LiesOnCycle rows a → IsNoted least a
-  pub levelled : least ≡ None → (k : ℕ) → k < length done → (b : ℕ) → Reads rows (slice_index done k) b → Contains (take k done) b
+  pub levelled : least ≡ None → (k : ℕ) → k < length done → (b : ℕ) → Reads rows (slice_index done k) b →
+      Contains (take k done) b
 
 -- the same of a search
 abbrev pub IsSound : List (List ℕ) → Search → Type 0

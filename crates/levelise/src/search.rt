@@ -1,4 +1,4 @@
-ghost use Rattle.std.specs.Prelude.{◌≡◌, ◌+◌, ◌<◌, ◌≤◌, ◌^◌, ◌↔◌, ◌++◌, ◌∷◌, [], ℕ, length, fold, All, Contains, OnOk, IfOk, IfSome, IfNone, slice_index, slice_index_or, slice_get};
+ghost use Rattle.std.specs.Prelude.{◌≡◌, ◌<◌, ◌≤◌, ◌++◌, [], ℕ, length, fold, All, Contains, OnOk, IfOk, IfSome, IfNone};
 ghost use Rattle.levelise.specs.Graph.{row_of, HasFewRows, ReadsOnlyNodes};
 ghost use Rattle.levelise.specs.Search.{mark_of, edges_from, noted, AreByPlace, IsLast, NotesPart, Rises, IsSound};
 
@@ -24,7 +24,10 @@ pub struct Edge {
 }
 
 /// A search for cycles along what the nodes read, depth first. The nodes on the path form parts, in which
-/// each node leads to each other; a part begins at one of `starts`, and ends before the next.
+/// each node leads to each other; a part begins at one of `starts`, places of the path, and ends before the next.
+/// `pending` are the edges that are still to be followed, `done` the nodes that are levelled, and `least` is the
+/// least node that is known to lie on a cycle. Each node is put on the path and taken off it once, and each edge is
+/// followed once.
 #[derive(Drop)]
 pub struct Search {
     pub marks: Vec<Mark>,
@@ -239,6 +242,7 @@ fn note(least: Option<u32>, node: u32) -> Option<u32>
     }
 }
 
+/// The least node on a cycle, now that all these are known to lie on one.
 fn note_all(mut least: Option<u32>, part: &[u32]) -> Option<u32>
     ensures { result ≡ fold noted least part.now }
 {

@@ -1,4 +1,4 @@
-ghost use Rattle.std.specs.Prelude.{◌<◌, ◌^◌, ◌↔◌, IsTrue, length, All};
+ghost use Rattle.std.specs.Prelude.{◌<◌, ◌↔◌, IsTrue, All};
 ghost use Rattle.levelise.specs.Graph.{HasFewRows, ReadsOnlyNodes};
 
 use crate::{Graph, LevelFault, order};

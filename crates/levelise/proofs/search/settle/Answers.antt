@@ -9,7 +9,9 @@ use Rattle.levelise.proofs.Lists.{front_grows, Contains-take_more, Contains-take
 use Rattle.levelise.proofs.search.settle.Goals as goal
 
 -- a node of the front is marked, one more node on
-settled_more : (marks : List Mark) (part : List ℕ) (i : ℕ) → i < length part → get_or part i 0 < length marks → ((a : ℕ) → Contains (take i part) a → mark_of marks a ≡ Done) → (a : ℕ) → Contains (take (i + 1) part) a → mark_of (set marks (get_or part i 0) Done) a ≡ Done
+settled_more : (marks : List Mark) (part : List ℕ) (i : ℕ) → i < length part → get_or part i 0 < length marks →
+    ((a : ℕ) → Contains (take i part) a → mark_of marks a ≡ Done) → (a : ℕ) → Contains (take (i + 1) part) a →
+    mark_of (set marks (get_or part i 0) Done) a ≡ Done
 settled_more marks part i h fits before a there =
     elim (cases_eq a (get_or part i 0)) [
       | inl same ↦ rw same (get_or-set_same marks (get_or part i 0) Done New fits)
@@ -22,7 +24,9 @@ settled_more marks part i h fits before a there =
     ]
 
 -- a node outside the front keeps its mark, one more node on
-others_more : (was marks : List Mark) (part : List ℕ) (i : ℕ) → i < length part → ((a : ℕ) → (Contains (take i part) a → ⊥) → mark_of marks a ≡ mark_of was a) → (a : ℕ) → (Contains (take (i + 1) part) a → ⊥) → mark_of (set marks (get_or part i 0) Done) a ≡ mark_of was a
+others_more : (was marks : List Mark) (part : List ℕ) (i : ℕ) → i < length part →
+    ((a : ℕ) → (Contains (take i part) a → ⊥) → mark_of marks a ≡ mark_of was a) → (a : ℕ) →
+    (Contains (take (i + 1) part) a → ⊥) → mark_of (set marks (get_or part i 0) Done) a ≡ mark_of was a
 others_more was marks part i h before a out =
     let other : a ≡ get_or part i 0 → ⊥ =
     λ same. out (subst (λ x. Contains (take (i + 1) part) x) (sym same) (Contains-take_at (i + 1) part i 0 (omega arith) h)) in
