@@ -4,6 +4,9 @@ pub mod Grammar
 pub mod Design
 pub mod Stimulus
 pub mod StimulusReading
+pub mod StimulusSource
+pub mod StimulusNext
+pub mod StimulusSteps
 pub mod Order
 pub mod Outcome
 pub mod Answer

@@ -1,11 +1,13 @@
 //! Compiles a synthesizable subset of SystemVerilog and simulates it in cycles with two-valued bits.
 #![tactic(auto)]
 
+mod found;
 mod line;
 mod order;
 mod reason;
 mod setting;
 mod spelling;
+mod step;
 mod stop;
 mod token;
 mod tree;

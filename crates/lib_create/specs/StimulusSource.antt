@@ -1,0 +1,57 @@
+-- What is read from a source of a stimulus.
+use Rattle.std.specs.Prelude.{◌≡◌, ℕ, ◌+◌, ◌<◌, ◌≤◌, Bool, true, false, ◌==◌, List, [], ◌∷◌, ◌++◌, length, ⊤, Option, None, Some}
+use Rattle.io_edge.specs.Fault.{Rose}
+use Rattle.lib_create.specs.declared.reason.Reason.{Reason}
+use Rattle.lib_create.specs.declared.reason.Reason.TheVariants.{LineTooLong, FileTooLong}
+use Rattle.lib_create.specs.declared.stop.Stop.{Stop}
+use Rattle.lib_create.specs.declared.stop.Stop.TheVariants.{ReadFault, WriteFault, NoMemory}
+use Rattle.lib_create.specs.declared.found.Found.{Found}
+use Rattle.lib_create.specs.declared.found.Found.TheVariants.{End, Line, Long}
+use Rattle.lib_create.specs.declared.found.Turn.{Turn}
+use Rattle.lib_create.specs.declared.found.Turn.TheVariants.{More, Done}
+use Rattle.lib_create.specs.Stimulus.{lines_of, span, limit_of, line_limit, file_limit}
+use Rattle.lib_create.specs.Stimulus as stimulus
+
+-- this holds of the bytes left before and after, where the source tells them; what it doesn't tell stays untold
+abbrev pub LeftSo : Option (List ℕ) → Option (List ℕ) → (List ℕ → List ℕ → Type 0) → Type 0
+LeftSo None after P = after ≡ None
+LeftSo (Some bytes) None P = ⊥
+LeftSo (Some bytes) (Some rest) P = P bytes rest
+
+-- only a read that failed is told as a fault
+abbrev pub IsCause : Stop → ℕ → ℕ → Type 0
+IsCause ReadFault before now = Rose before now
+IsCause WriteFault before now = ⊥
+IsCause NoMemory before now = ⊤
+
+-- this byte is the first of those left, or none is left
+abbrev pub IsNextByte : Option ℕ → List ℕ → List ℕ → Type 0
+IsNextByte None bytes rest = (bytes ≡ []) × (rest ≡ [])
+IsNextByte (Some byte) bytes rest = bytes ≡ byte ∷ rest
+
+-- what the next byte makes of a line of n bytes that begins at this place, none of which passes a limit
+abbrev pub IsTurn : ℕ → ℕ → Option ℕ → Turn → Type 0
+IsTurn at n (Some b) (More c) = (c ≡ b) × ((b == 10) ≡ false) × (n < line_limit) × (at + n < file_limit)
+IsTurn at n None (More c) = ⊥
+IsTurn at n None (Done End) = n ≡ 0
+IsTurn at n (Some b) (Done End) = ⊥
+IsTurn at n None (Done (Line ended)) = (ended ≡ false) × (0 < n)
+IsTurn at n (Some b) (Done (Line ended)) = (ended ≡ true) × (b ≡ 10) × (at + n < file_limit)
+IsTurn at n None (Done (Long reason)) = ⊥
+IsTurn at n (Some b) (Done (Long LineTooLong)) = ((b == 10) ≡ false) × (n ≡ line_limit)
+IsTurn at n (Some b) (Done (Long FileTooLong)) = (at + n ≡ file_limit) × (n ≡ line_limit → b ≡ 10)
+IsTurn at n (Some b) (Done (Long reason)) = ⊥
+
+-- what stands at this place: the end of the bytes, or a line of this text and the rest behind it, or a line that passes a limit
+abbrev pub IsFound : ℕ → List ℕ → Found → List ℕ → List ℕ → Type 0
+IsFound at text End bytes rest = bytes ≡ []
+IsFound at text (Line ended) bytes rest =
+    (lines_of bytes ≡ record { text = text; ended = ended } ∷ lines_of rest) × (limit_of at (record { text = text; ended = ended }) ≡ None)
+IsFound at text (Long reason) bytes rest =
+    (line : stimulus.Line) × (lines : List stimulus.Line) × (lines_of bytes ≡ line ∷ lines) × (limit_of at line ≡ Some reason)
+
+-- a line takes some bytes, and none past the limit of the file
+abbrev pub FoundWithin : ℕ → List ℕ → Found → Type 0
+FoundWithin at text End = ⊤
+FoundWithin at text (Line ended) = (0 < span (record { text = text; ended = ended })) × (at + span (record { text = text; ended = ended }) ≤ file_limit)
+FoundWithin at text (Long reason) = ⊤
