@@ -3,3 +3,4 @@ pub mod StimulusWords
 pub mod StimulusSettings
 pub mod StimulusLines
 pub mod BenchSteps
+pub mod StimulusBytes

@@ -78,10 +78,10 @@ read_more vars settings given s word rest left text words given_is gives_given s
     let gives : Ok (setting_seen s) ≡ setting_of vars (inputs_set settings) word = gives_given ∙ ap (λ (set : List Setting). setting_of vars (inputs_set set) word) given_is in
     let go : Assigned → Result (List Assigned) Fault = λ first. settings_of vars (first.var ∷ inputs_set settings) (words_of rest) in
     let one : settings_of vars (inputs_set settings) (words_of left) ≡ with_setting (setting_seen s) (settings_of vars (s.var ∷ inputs_set settings) (words_of rest)) =
-      ap (settings_of vars (inputs_set settings)) words ∙ ap (λ (r : Result Assigned Fault). after_setting r go) (sym gives) in
+    ap (settings_of vars (inputs_set settings)) words ∙ ap (λ (r : Result Assigned Fault). after_setting r go) (sym gives) in
     let shown : with_all (settings_seen (settings ++ s ∷ [])) (settings_of vars (inputs_set (settings ++ s ∷ [])) (words_of rest)) ≡ with_all (settings_seen settings ++ setting_seen s ∷ []) (settings_of vars (s.var ∷ inputs_set settings) (words_of rest)) =
-      ap (λ (ss : List Assigned). with_all ss (settings_of vars (inputs_set (settings ++ s ∷ [])) (words_of rest))) (seen_more settings s)
-      ∙ ap (λ (set : List ℕ). with_all (settings_seen settings ++ setting_seen s ∷ []) (settings_of vars set (words_of rest))) (inputs_more settings s) in
+    ap (λ (ss : List Assigned). with_all ss (settings_of vars (inputs_set (settings ++ s ∷ [])) (words_of rest))) (seen_more settings s)
+    ∙ ap (λ (set : List ℕ). with_all (settings_seen settings ++ setting_seen s ∷ []) (settings_of vars set (words_of rest))) (inputs_more settings s) in
     shown ∙ sym (all_more (settings_seen settings) (setting_seen s) (settings_of vars (s.var ∷ inputs_set settings) (words_of rest)))
     ∙ ap (with_all (settings_seen settings)) (sym one) ∙ so_far
 
@@ -90,7 +90,7 @@ read_bad vars settings given bad word rest left text words given_is gives_given 
     let gives : Err (fault_seen bad) ≡ setting_of vars (inputs_set settings) word = gives_given ∙ ap (λ (set : List Setting). setting_of vars (inputs_set set) word) given_is in
     let go : Assigned → Result (List Assigned) Fault = λ first. settings_of vars (first.var ∷ inputs_set settings) (words_of rest) in
     let one : settings_of vars (inputs_set settings) (words_of left) ≡ Err (fault_seen bad) =
-      ap (settings_of vars (inputs_set settings)) words ∙ ap (λ (r : Result Assigned Fault). after_setting r go) (sym gives) in
+    ap (settings_of vars (inputs_set settings)) words ∙ ap (λ (r : Result Assigned Fault). after_setting r go) (sym gives) in
     ap meaning_of_settings (sym (all_bad (settings_seen settings) (fault_seen bad)) ∙ ap (with_all (settings_seen settings)) (sym one) ∙ so_far)
 
 pub read_whole : (vars : List Var) (settings : List Setting) (left text : List ℕ) → words_of left ≡ [] → ReadSoFar vars settings left text → Stepped (Values (settings_seen settings)) ≡ meaning_of_settings (settings_of vars [] (words_of text))

@@ -4,13 +4,13 @@ pub mod Grammar
 pub mod Design
 pub mod Stimulus
 pub mod StimulusReading
+pub mod StimulusSource
+pub mod StimulusNext
+pub mod StimulusSteps
 pub mod Order
 pub mod Outcome
 pub mod Answer
 pub mod CommandWords
 pub mod Loading
 pub mod Verdicts
-pub mod StimulusNext
-pub mod StimulusSource
-pub mod StimulusSteps
 pub mod Playing

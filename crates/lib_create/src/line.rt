@@ -31,7 +31,11 @@ fn without_cr(text: &[u8]) -> &[u8]
         return text;
     }
     let last = text.len() - 1;
-    if text[last] == b'\r' { &text[..last] } else { text }
+    if text[last] == b'\r' {
+        &text[..last]
+    } else {
+        text
+    }
 }
 
 // What a line says: a CR right before its LF is left out.

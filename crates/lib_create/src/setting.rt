@@ -5,7 +5,7 @@ ghost use Rattle.std.specs.List.{list_any, position};
 ghost use Rattle.std.specs.Option.{option_map};
 ghost use Rattle.std.specs.Str.{bytes_eq};
 ghost use Rattle.bit_ops.specs.Width.{IsWidth};
-ghost use Rattle.net_ir.specs.Plain.{HaveInitialValues};
+ghost use Rattle.net_ir.specs.Plain.{HasVars};
 ghost use Rattle.lib_create.specs.Spelling.{is_name};
 ghost use Rattle.lib_create.specs.Stimulus.{digit_of, number_from, word_in, parts_of, named_part, is_input, input_from, setting_of};
 ghost use Rattle.lib_create.specs.StimulusReading.{IsInputOf, IsSettable, inputs_set, setting_result};
@@ -64,7 +64,11 @@ fn value_in(width: u32, text: &[u8]) -> Option<Bits>
     }
     let word = number(text)?;
     let value = Bits::truncated(width, word);
-    if value.word == word { Some(value) } else { None }
+    if value.word == word {
+        Some(value)
+    } else {
+        None
+    }
 }
 
 fn equals_sign(word: &[u8]) -> Option<usize>
@@ -94,7 +98,11 @@ fn parts(word: &[u8]) -> Option<(&[u8], &[u8])>
     ensures { option_map (λ parts. (parts.0.now, parts.1.now)) result ≡ named_part (parts_of word.now) }
 {
     let (name, text) = split_parts(word)?;
-    if has_form(name, text) { Some((name, text)) } else { None }
+    if has_form(name, text) {
+        Some((name, text))
+    } else {
+        None
+    }
 }
 
 fn is_data_input(role: Role) -> bool
@@ -109,7 +117,8 @@ fn is_data_input(role: Role) -> bool
 fn position_of_input(vars: &[Var], name: &[u8]) -> Option<usize>
     ensures { result ≡ position (λ v. bytes_eq v.name name.now && is_input v.role) vars.now }
 {
-    vars.iter().position(|v| v.name.bytes() == name && is_data_input(v.role))
+    vars.iter()
+        .position(|v| v.name.bytes() == name && is_data_input(v.role))
 }
 
 fn is_set(set: &[Setting], var: usize) -> bool
@@ -127,8 +136,12 @@ fn input(vars: &[Var], name: &[u8]) -> Option<usize>
 }
 
 /// What a word sets, where the settings before it in its line are `set`.
-pub fn read_setting<'a>(vars: &[Var], set: &[Setting], word: &'a [u8]) -> Result<Setting, BadWord<'a>>
-    requires { HaveInitialValues vars.now }
+pub fn read_setting<'a>(
+    vars: &[Var],
+    set: &[Setting],
+    word: &'a [u8],
+) -> Result<Setting, BadWord<'a>>
+    requires { HasVars vars.now }
     ensures gives { setting_result result ≡ setting_of vars.now (inputs_set set.now) word.now }
     ensures settable { IfOk result (IsSettable vars.now) }
 {

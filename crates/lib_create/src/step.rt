@@ -51,7 +51,7 @@ pub struct StepReader {
 impl StepReader {
     ghost use Rattle.std.specs.Prelude.{◌≡◌, ◌+◌, ◌<◌, ◌≤◌, [], length, IfOk, IfErr, IfNone, Some};
     ghost use Rattle.std.specs.List.{AllByRecursion};
-    ghost use Rattle.net_ir.specs.Plain.{HaveInitialValues};
+    ghost use Rattle.net_ir.specs.Plain.{HasVars};
     ghost use Rattle.lib_create.specs.Stimulus.{script_of, span};
     ghost use Rattle.lib_create.specs.StimulusReading.{IsSettable};
     ghost use Rattle.lib_create.specs.StimulusSource.{LeftSo, IsCause};
@@ -79,8 +79,13 @@ impl StepReader {
     }
 
     // What the line in the buffer makes of the script: `None` where it is skipped.
-    fn judge(&mut self, alloc: Global, vars: &[Var], ended: bool) -> Result<Option<Next>, AllocError>
-        requires vars { HaveInitialValues vars.now }
+    fn judge(
+        &mut self,
+        alloc: Global,
+        vars: &[Var],
+        ended: bool,
+    ) -> Result<Option<Next>, AllocError>
+        requires vars { HasVars vars.now }
         requires some { 0 < span (line_in self.old ended) }
         requires within { self.old.at + span (line_in self.old ended) ≤ 1073741824 }
         ensures gives { IfOk result (Judges vars.now self.old self.new ended) }
@@ -113,8 +118,13 @@ impl StepReader {
     }
 
     // What the next line makes of the script: `None` where it is skipped.
-    fn one_line<S: Source>(&mut self, alloc: Global, vars: &[Var], source: &mut S) -> Result<Option<Next>, Stop>
-        requires { HaveInitialValues vars.now }
+    fn one_line<S: Source>(
+        &mut self,
+        alloc: Global,
+        vars: &[Var],
+        source: &mut S,
+    ) -> Result<Option<Next>, Stop>
+        requires { HasVars vars.now }
         ensures gives { IfOk result (λ next. LeftSo (S.left source.old) (S.left source.new) (GivesLine vars.now self.old self.new next)) }
         ensures settable { IfOk result (λ next. next ≡ Some Next.Step → AllByRecursion (IsSettable vars.now) (settings_of_step self.new)) }
         ensures on { IfOk result (λ next. IfNone next (self.old.at < self.new.at)) }
@@ -136,8 +146,13 @@ impl StepReader {
     /// What comes next: the step that `settings` then gives, the end, or the first bad line. Of the file it reads to
     /// the end of that line, or to the first byte past a limit. After the end and after a bad line, and after a
     /// `Stop`, it is not to be called again.
-    pub fn next_step<S: Source>(&mut self, alloc: Global, vars: &[Var], source: &mut S) -> Result<Next, Stop>
-        requires { HaveInitialValues vars.now }
+    pub fn next_step<S: Source>(
+        &mut self,
+        alloc: Global,
+        vars: &[Var],
+        source: &mut S,
+    ) -> Result<Next, Stop>
+        requires { HasVars vars.now }
         ensures gives { IfOk result (λ next. LeftSo (S.left source.old) (S.left source.new) (Gives vars.now self.old self.new next)) }
         ensures settable { IfOk result (λ next. next ≡ Next.Step → AllByRecursion (IsSettable vars.now) (settings_of_step self.new)) }
         ensures cause { IfErr result (λ stop. IsCause stop (S.faults source.old) (S.faults source.new)) }

@@ -1,0 +1,14 @@
+use Rattle.std.proofs.Common.{◌≡◌, ◌-◌, ◌≤◌}
+use Rattle.lib_create.specs.StimulusSource.{LeftSo}
+use Rattle.lib_create.specs.StimulusSteps.{script_left}
+use Rattle.lib_create.proofs.step.StepReader.next_step.Given as goal
+
+abbrev pub invariant-lines : goal.invariant-lines
+invariant-lines g l = record {
+  so_far : LeftSo (g.S.Source.left l.initial.source) (g.S.Source.left l.source) (λ bytes rest. script_left l.vars l.initial.self bytes ≡ script_left l.vars l.self rest);
+  ground : g.S.Source.same_ground l.initial.source l.source;
+  later : g.S.Source.faults l.initial.source ≤ g.S.Source.faults l.source;
+}
+
+abbrev pub decreases-lines : goal.decreases-lines
+decreases-lines g l = 1073741824 - l.self.at
