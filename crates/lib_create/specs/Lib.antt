@@ -6,3 +6,4 @@ pub mod Stimulus
 pub mod Order
 pub mod Outcome
 pub mod Answer
+pub mod TokenReading
