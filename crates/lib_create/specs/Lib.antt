@@ -7,3 +7,4 @@ pub mod Order
 pub mod Outcome
 pub mod Answer
 pub mod TokenReading
+pub mod TreeReading

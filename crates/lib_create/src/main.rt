@@ -2,6 +2,7 @@
 #![tactic(auto)]
 
 mod order;
+mod parser;
 mod reason;
 mod spelling;
 mod token;
