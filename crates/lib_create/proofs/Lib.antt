@@ -1,3 +1,6 @@
 pub mod TokenLemmas
 pub mod TreeLemmas
 pub mod PartLemmas
+pub mod ManyLemmas
+pub mod ModuleLemmas
+pub mod CutLemmas

@@ -11,7 +11,7 @@ use Rattle.lib_create.specs.Grammar.{is_blank, line_ends, EndsName, IsSingle, Is
 use Rattle.lib_create.specs.TokenReading.{token_len, IsNext}
 
 -- no element that passes stands at the front
-abbrev FailsFirst : (ℕ → Bool) → List ℕ → Type 0
+abbrev pub FailsFirst : (ℕ → Bool) → List ℕ → Type 0
 FailsFirst p [] = Unit {0}
 FailsFirst p (b ∷ bytes) = p b ≡ false
 

@@ -1,11 +1,11 @@
 -- What is read from tokens fills its slots, and what fills its slots is read again.
 use Rattle.std.proofs.Common.{◌≡◌, ℕ, zero, suc, ◌+◌, ◌<◌, ◌≤◌, Bool, true, false, cond, List, [], ◌∷◌, ◌++◌, length, Option, Some, None, refl, sym, ap, subst, ◌∙◌, arith, inl, inr}
-use Rattle.std.specs.Prelude.{◌&&◌, ◌⊎◌, not, codes, nat_le, IsTrue}
+use Rattle.std.specs.Prelude.{◌&&◌, ◌==◌, ◌⊎◌, not, codes, nat_le, IsTrue}
 use Rattle.std.specs.List.{flat_map}
 use Rattle.std.specs.Str.{bytes_eq}
-use Rattle.std.proofs.lemmas.Bool.{and_parts, not-true, not_from_false, leb-true, le-leb}
+use Rattle.std.proofs.lemmas.Bool.{and_parts, not-true, not_from_false, leb-true, le-leb, eqb-true}
 use Rattle.std.proofs.lemmas.Slice.Eq.{bytes_eq-Decides}
-use Rattle.std.proofs.lemmas.List.{append-nil}
+use Rattle.std.proofs.lemmas.List.{nil_from_length}
 use Rattle.lib_create.specs.Spelling.{is_name, is_reserved, is_free_name}
 use Rattle.lib_create.specs.declared.token.Token.{Token}
 use Rattle.lib_create.specs.declared.tree.Direction.{Direction}
@@ -193,5 +193,4 @@ negation_again false name (token ∷ tokens) mid rest h g =
     rw (name_is_no_negation token.text front.0.1) (ap (λ (t : List Token). (false, t)) h)
 
 pub end_is : {X : Type 0} (x y : X) (tokens : List Token) → at_end x tokens ≡ Some y → (x ≡ y) × (tokens ≡ [])
-end_is x y [] e = (cc, refl)
-end_is x y (token ∷ tokens) e = absurd cc
+end_is x y tokens e = let g = guard_some (length tokens == 0) x y e in (g.1, nil_from_length tokens (eqb-true (length tokens) 0 g.0))

@@ -1,5 +1,5 @@
 -- Reading a module of the first grammar from tokens, from left to right.
-use Rattle.std.specs.Prelude.{◌≡◌, ℕ, zero, suc, Bool, true, false, ◌&&◌, nat_le, List, [], ◌∷◌, length, codes, Option, Some, None, Result, Ok, Err, if◌then◌else◌}
+use Rattle.std.specs.Prelude.{◌≡◌, ℕ, zero, suc, Bool, true, false, ◌&&◌, ◌==◌, nat_le, List, [], ◌∷◌, ◌++◌, length, codes, Option, Some, None, Result, Ok, Err, if◌then◌else◌}
 use Rattle.std.specs.Str.{bytes_eq}
 use Rattle.lib_create.specs.Spelling.{is_free_name}
 use Rattle.lib_create.specs.declared.token.Token.{Token}
@@ -119,6 +119,10 @@ many_at text read (suc n) tokens =
     if begins_with text tokens then (read tokens >>= λ first. many_at text read n first.1 >>= λ others. Some (first.0 ∷ others.0, others.1))
     else Some ([], tokens)
 
+-- what was read before, and what is still read
+abbrev pub with_front : {X : Type 0} → List X → Option (List X × List Token) → Option (List X × List Token)
+with_front front read = read >>= λ x. Some (front ++ x.0, x.1)
+
 abbrev pub assignments_at : List Token → Option (List Assignment × List Token)
 assignments_at tokens = many_at (codes "assign") assignment_at (length tokens) tokens
 
@@ -128,13 +132,11 @@ next_ports_at tokens = many_at (codes ",") next_port_at (length tokens) tokens
 unfoldable pub ports_at : List Token → Option (List PortDeclaration × List Token)
 ports_at tokens = do
   first ← port_at tokens
-  others ← next_ports_at first.1
-  Some (first.0 ∷ others.0, others.1)
+  with_front (first.0 ∷ []) (next_ports_at first.1)
 
 -- nothing but the end
 abbrev pub at_end : {X : Type 0} → X → List Token → Option X
-at_end x [] = Some x
-at_end x (token ∷ tokens) = None
+at_end x tokens = if length tokens == 0 then Some x else None
 
 unfoldable pub module_at : List Token → Option Module
 module_at tokens = do

@@ -3,6 +3,8 @@
 
 mod order;
 mod parser;
+mod source;
+mod law;
 mod reason;
 mod spelling;
 mod token;

@@ -1,12 +1,12 @@
 //! Reads a module of the first grammar from tokens.
 
-ghost use Rattle.std.specs.Prelude.{◌≡◌, ◌<◌, ◌++◌, ◌∷◌, length, codes, IfOk, IfSome, IfNone, map, Some};
+ghost use Rattle.std.specs.Prelude.{◌≡◌, ◌<◌, [], ◌∷◌, length, codes, IfOk, IfSome, IfNone, map, Some};
 ghost use Rattle.std.specs.Option.{option_map};
 ghost use Rattle.std.specs.Str.{bytes_eq};
 ghost use Rattle.lib_create.specs.declared.parser.Stop.TheVariants.{NoMemory};
 ghost use Rattle.lib_create.specs.declared.tree.Module.{Module};
 ghost use Rattle.lib_create.specs.Grammar.{module_slots, Fill};
-ghost use Rattle.lib_create.specs.TreeReading.{Gives, begins_with, text_at, is_identifier, identifier_at, negation_at, operator_at, direction_at, operand_at, expression_at, assignment_at, port_at, next_port_at, assignments_at, next_ports_at, ports_at, module_at};
+ghost use Rattle.lib_create.specs.TreeReading.{Gives, begins_with, text_at, is_identifier, identifier_at, negation_at, operator_at, direction_at, operand_at, expression_at, assignment_at, port_at, next_port_at, assignments_at, next_ports_at, ports_at, module_at, with_front};
 
 use crate::spelling;
 use crate::token::Token;
@@ -200,4 +200,77 @@ fn next_port_of(alloc: Global, tokens: &[Token]) -> Result<(PortDeclaration, &[T
 {
     let rest = after_text(",", tokens)?;
     port_of(alloc, rest)
+}
+
+fn next_ports_of(
+    alloc: Global,
+    first: PortDeclaration,
+    tokens: &[Token],
+) -> Result<(Vec<PortDeclaration>, &[Token]), Stop>
+    ensures { Gives (λ x. (x.0.items, x.1.now)) result (with_front (first ∷ []) (next_ports_at tokens.now)) }
+{
+    let mut ports = Vec::new(alloc);
+    ports.push(first)?;
+    let mut rest = tokens;
+    while begins_with(",", rest) {
+        let (port, after) = next_port_of(alloc, rest)?;
+        ports.push(port)?;
+        rest = after;
+    }
+    Ok((ports, rest))
+}
+
+#[tactic(auto, unfolding(crate::specs::TreeReading::ports_at))]
+fn ports_of(alloc: Global, tokens: &[Token]) -> Result<(Vec<PortDeclaration>, &[Token]), Stop>
+    ensures { Gives (λ x. (x.0.items, x.1.now)) result (ports_at tokens.now) }
+{
+    let (first, rest) = port_of(alloc, tokens)?;
+    next_ports_of(alloc, first, rest)
+}
+
+fn assignments_of(alloc: Global, tokens: &[Token]) -> Result<(Vec<Assignment>, &[Token]), Stop>
+    ensures { Gives (λ x. (x.0.items, x.1.now)) result (assignments_at tokens.now) }
+{
+    let mut assignments = Vec::new(alloc);
+    let mut rest = tokens;
+    while begins_with("assign", rest) {
+        let (assignment, after) = assignment_of(alloc, rest)?;
+        assignments.push(assignment)?;
+        rest = after;
+    }
+    Ok((assignments, rest))
+}
+
+#[tactic(auto, unfolding(crate::specs::TreeReading::module_at))]
+fn module_of(alloc: Global, tokens: &[Token]) -> Result<Module, Stop>
+    ensures { Gives (λ m. m) result (module_at tokens.now) }
+{
+    let rest = after_text("module", tokens)?;
+    let (name, rest) = identifier_of(alloc, rest)?;
+    let rest = after_text("(", rest)?;
+    let (ports, rest) = ports_of(alloc, rest)?;
+    let rest = after_text(")", rest)?;
+    let rest = after_text(";", rest)?;
+    let (assignments, rest) = assignments_of(alloc, rest)?;
+    let rest = after_text("endmodule", rest)?;
+    if !rest.is_empty() {
+        return Err(Stop::Unexpected);
+    }
+    Ok(Module {
+        name,
+        ports: Sequence::from_vec(ports),
+        assignments: Sequence::from_vec(assignments),
+    })
+}
+
+/// The module that the tokens are, if they are one.
+pub fn parse(alloc: Global, tokens: &[Token]) -> Result<Option<Module>, AllocError>
+    ensures some { IfOk result (λ read. IfSome read (λ m. (0 < length m.ports) × Fill (module_slots m) tokens.now)) }
+    ensures none { IfOk result (λ read. IfNone read ((m : Module) → 0 < length m.ports → Fill (module_slots m) tokens.now → ⊥)) }
+{
+    match module_of(alloc, tokens) {
+        Ok(read) => Ok(Some(read)),
+        Err(Stop::Unexpected) => Ok(None),
+        Err(Stop::NoMemory) => Err(AllocError),
+    }
 }
