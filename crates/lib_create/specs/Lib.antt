@@ -8,3 +8,6 @@ pub mod Outcome
 pub mod Answer
 pub mod TokenReading
 pub mod TreeReading
+pub mod CommandWords
+pub mod Loading
+pub mod Verdicts

@@ -1,13 +1,18 @@
 //! Compiles a synthesizable subset of SystemVerilog and simulates it in cycles with two-valued bits.
 #![tactic(auto)]
 
+mod command;
+mod law;
+mod load;
 mod order;
 mod parser;
-mod source;
-mod law;
 mod reason;
+mod source;
 mod spelling;
+mod stop;
 mod token;
+mod trace;
 mod tree;
+mod verdict;
 
 fn main() {}
