@@ -34,6 +34,7 @@ is_no_blank b begins = by (is_blank b) refl
   where
     other : (k : ℕ) → begins_name k ≡ false → (b == k) ≡ true → ⊥
     other k differs e = let same : begins_name b ≡ begins_name k = ap begins_name (eqb-true b k e) in cc
+
     by : (v : Bool) → is_blank b ≡ v → v ≡ false
     by false e = refl
     by true e =

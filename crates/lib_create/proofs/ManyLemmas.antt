@@ -4,10 +4,10 @@ use Rattle.std.specs.Prelude.{◌⊎◌}
 use Rattle.std.specs.List.{flat_map}
 use Rattle.std.proofs.lemmas.List.{append-nil}
 use Rattle.lib_create.specs.declared.token.Token.{Token}
-use Rattle.lib_create.specs.declared.parser.Stop.{Stop}
-use Rattle.lib_create.specs.declared.parser.Stop.TheVariants as stop
+use Rattle.lib_create.specs.declared.parser.Unread.{Unread}
+use Rattle.lib_create.specs.declared.parser.Unread.TheVariants as unread
 use Rattle.lib_create.specs.Grammar.{Slot}
-use Rattle.lib_create.specs.TreeReading.{◌>>=◌, Stops, begins_with, many_at, with_front}
+use Rattle.lib_create.specs.TreeReading.{◌>>=◌, Fails, begins_with, many_at, with_front}
 use Rattle.lib_create.proofs.TreeLemmas.{bind_some, some_is, Takes, takes_split, takes_join, takes_length}
 
 -- ---- the two laws
@@ -82,11 +82,11 @@ module _ {X : Type 0} (text : List ℕ) (read : List Token → Option (X × List
           let one : with_front front (many_at text read (suc n) tokens) ≡ with_front (front ++ x ∷ []) (many_at text read n after) = rw (b, r) (regroup front x (many_at text read n after)) in
           record { fuel = n; enough = omega arith; so_far = sym one ∙ so_far }
 
-  pub ends : (e : Stop) (front : List X) (tokens : List Token) (whole : Option (List X × List Token)) → begins_with text tokens ≡ true → Stops e (read tokens) → Ongoing text read front tokens whole → Stops e whole
+  pub ends : (e : Unread) (front : List X) (tokens : List Token) (whole : Option (List X × List Token)) → begins_with text tokens ≡ true → Fails e (read tokens) → Ongoing text read front tokens whole → Fails e whole
   unfolding many_at
-  ends stop.NoMemory front tokens whole b h on = tt
-  ends stop.Unexpected front [] whole b h on = absurd cc
-  ends stop.Unexpected front (token ∷ tokens) whole b h on = by on.fuel on.enough on.so_far
+  ends unread.NoMemory front tokens whole b h on = tt
+  ends unread.Unexpected front [] whole b h on = absurd cc
+  ends unread.Unexpected front (token ∷ tokens) whole b h on = by on.fuel on.enough on.so_far
     where
       by : (n : ℕ) → length (token ∷ tokens) ≤ n → with_front front (many_at text read n (token ∷ tokens)) ≡ whole → whole ≡ None
       by zero le so_far = absurd (omega arith)
@@ -100,6 +100,7 @@ module _ {X : Type 0} (text : List ℕ) (read : List Token → Option (X × List
     where
       here : with_front front (Some ([], tokens)) ≡ Some (front, tokens)
       here = ap (λ xs. Some (xs, tokens)) (append-nil front)
+
       by : (n : ℕ) → with_front front (many_at text read n tokens) ≡ whole → whole ≡ Some (front, tokens)
       by zero so_far = sym so_far ∙ here
       by (suc n) so_far =

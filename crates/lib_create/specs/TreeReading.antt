@@ -13,8 +13,8 @@ use Rattle.lib_create.specs.declared.tree.Expression.TheVariants.{Single, Pair}
 use Rattle.lib_create.specs.declared.tree.PortDeclaration.{PortDeclaration}
 use Rattle.lib_create.specs.declared.tree.Assignment.{Assignment}
 use Rattle.lib_create.specs.declared.tree.Module.{Module}
-use Rattle.lib_create.specs.declared.parser.Stop.{Stop}
-use Rattle.lib_create.specs.declared.parser.Stop.TheVariants as stop
+use Rattle.lib_create.specs.declared.parser.Unread.{Unread}
+use Rattle.lib_create.specs.declared.parser.Unread.TheVariants as unread
 
 infixl 10 ◌>>=◌
 -- a step after a step
@@ -22,15 +22,15 @@ abbrev pub ◌>>=◌ : {A B : Type 0} → Option A → (A → Option B) → Opti
 (Some x) >>= f = f x
 None >>= f = None
 
--- a function that stopped says what reading gives: nothing, unless memory ran out
-abbrev pub Stops : {Y : Type 0} → Stop → Option Y → Type 0
-Stops stop.NoMemory read = Unit {0}
-Stops stop.Unexpected read = read ≡ None
+-- a function that failed says what reading gives: nothing, unless memory ran out
+abbrev pub Fails : {Y : Type 0} → Unread → Option Y → Type 0
+Fails unread.NoMemory read = Unit {0}
+Fails unread.Unexpected read = read ≡ None
 
 -- what a function returned, seen by view, is what reading gives, unless memory ran out
-abbrev pub Gives : {X Y : Type 0} → (X → Y) → Result X Stop → Option Y → Type 0
+abbrev pub Gives : {X Y : Type 0} → (X → Y) → Result X Unread → Option Y → Type 0
 Gives view (Ok x) read = read ≡ Some (view x)
-Gives view (Err e) read = Stops e read
+Gives view (Err e) read = Fails e read
 
 -- ---- one token
 

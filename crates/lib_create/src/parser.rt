@@ -3,7 +3,7 @@
 ghost use Rattle.std.specs.Prelude.{◌≡◌, ◌<◌, [], ◌∷◌, length, codes, IfOk, IfSome, IfNone, map, Some};
 ghost use Rattle.std.specs.Option.{option_map};
 ghost use Rattle.std.specs.Str.{bytes_eq};
-ghost use Rattle.lib_create.specs.declared.parser.Stop.TheVariants.{NoMemory};
+ghost use Rattle.lib_create.specs.declared.parser.Unread.TheVariants.{NoMemory};
 ghost use Rattle.lib_create.specs.declared.tree.Module.{Module};
 ghost use Rattle.lib_create.specs.Grammar.{module_slots, Fill};
 ghost use Rattle.lib_create.specs.TreeReading.{Gives, begins_with, text_at, is_identifier, identifier_at, negation_at, operator_at, direction_at, operand_at, expression_at, assignment_at, port_at, next_port_at, assignments_at, next_ports_at, ports_at, module_at, with_front};
@@ -14,27 +14,27 @@ use crate::tree::{Assignment, Direction, Expression, Module, Operand, Operator, 
 use std::alloc::{AllocError, AllocFailed, Global};
 use sv_base::{Name, Sequence};
 
-/// Why reading stops.
+/// Why nothing is read.
 #[derive(Debug, Drop)]
-enum Stop {
+enum Unread {
     NoMemory,
     /// A token, or the end, stands where the grammar has another token.
     Unexpected,
 }
 
-impl From<AllocError> for Stop {
+impl From<AllocError> for Unread {
     ghost from_gives = { λ _ e. e ≡ NoMemory };
 
-    fn from(_e: AllocError) -> Stop {
-        Stop::NoMemory
+    fn from(_e: AllocError) -> Unread {
+        Unread::NoMemory
     }
 }
 
-impl<T: Drop> From<AllocFailed<T>> for Stop {
+impl<T: Drop> From<AllocFailed<T>> for Unread {
     ghost from_gives = { λ _ e. e ≡ NoMemory };
 
-    fn from(_e: AllocFailed<T>) -> Stop {
-        Stop::NoMemory
+    fn from(_e: AllocFailed<T>) -> Unread {
+        Unread::NoMemory
     }
 }
 
@@ -53,16 +53,16 @@ fn begins_with(text: &str, tokens: &[Token]) -> bool
     }
 }
 
-fn after_text<'a>(text: &str, tokens: &'a [Token]) -> Result<&'a [Token], Stop>
+fn after_text<'a>(text: &str, tokens: &'a [Token]) -> Result<&'a [Token], Unread>
     ensures { Gives (λ rest. rest.now) result (text_at text.now tokens.now) }
 {
     match tokens {
-        [] => Err(Stop::Unexpected),
+        [] => Err(Unread::Unexpected),
         [token, rest @ ..] => {
             if is_text(token, text) {
                 Ok(rest)
             } else {
-                Err(Stop::Unexpected)
+                Err(Unread::Unexpected)
             }
         }
     }
@@ -84,14 +84,14 @@ fn copy_of(alloc: Global, token: &Token) -> Result<Token, AllocError>
     })
 }
 
-fn identifier_of(alloc: Global, tokens: &[Token]) -> Result<(Token, &[Token]), Stop>
+fn identifier_of(alloc: Global, tokens: &[Token]) -> Result<(Token, &[Token]), Unread>
     ensures { Gives (λ x. (x.0, x.1.now)) result (identifier_at tokens.now) }
 {
     match tokens {
-        [] => Err(Stop::Unexpected),
+        [] => Err(Unread::Unexpected),
         [token, rest @ ..] => {
             if !is_identifier(token.text.bytes()) {
-                return Err(Stop::Unexpected);
+                return Err(Unread::Unexpected);
             }
             Ok((copy_of(alloc, token)?, rest))
         }
@@ -132,25 +132,25 @@ fn operator_of(tokens: &[Token]) -> Option<(Operator, &[Token])>
     }
 }
 
-fn direction_of(tokens: &[Token]) -> Result<(Direction, &[Token]), Stop>
+fn direction_of(tokens: &[Token]) -> Result<(Direction, &[Token]), Unread>
     ensures { Gives (λ x. (x.0, x.1.now)) result (direction_at tokens.now) }
 {
     match tokens {
-        [] => Err(Stop::Unexpected),
+        [] => Err(Unread::Unexpected),
         [token, rest @ ..] => {
             if is_text(token, "input") {
                 Ok((Direction::In, rest))
             } else if is_text(token, "output") {
                 Ok((Direction::Out, rest))
             } else {
-                Err(Stop::Unexpected)
+                Err(Unread::Unexpected)
             }
         }
     }
 }
 
 #[tactic(auto, unfolding(crate::specs::TreeReading::operand_at))]
-fn operand_of(alloc: Global, tokens: &[Token]) -> Result<(Operand, &[Token]), Stop>
+fn operand_of(alloc: Global, tokens: &[Token]) -> Result<(Operand, &[Token]), Unread>
     ensures { Gives (λ x. (x.0, x.1.now)) result (operand_at tokens.now) }
 {
     let (negated, rest) = negation_of(tokens);
@@ -159,7 +159,7 @@ fn operand_of(alloc: Global, tokens: &[Token]) -> Result<(Operand, &[Token]), St
 }
 
 #[tactic(auto, unfolding(crate::specs::TreeReading::expression_at))]
-fn expression_of(alloc: Global, tokens: &[Token]) -> Result<(Expression, &[Token]), Stop>
+fn expression_of(alloc: Global, tokens: &[Token]) -> Result<(Expression, &[Token]), Unread>
     ensures { Gives (λ x. (x.0, x.1.now)) result (expression_at tokens.now) }
 {
     let (first, rest) = operand_of(alloc, tokens)?;
@@ -173,7 +173,7 @@ fn expression_of(alloc: Global, tokens: &[Token]) -> Result<(Expression, &[Token
 }
 
 #[tactic(auto, unfolding(crate::specs::TreeReading::assignment_at))]
-fn assignment_of(alloc: Global, tokens: &[Token]) -> Result<(Assignment, &[Token]), Stop>
+fn assignment_of(alloc: Global, tokens: &[Token]) -> Result<(Assignment, &[Token]), Unread>
     ensures { Gives (λ x. (x.0, x.1.now)) result (assignment_at tokens.now) }
 {
     let rest = after_text("assign", tokens)?;
@@ -185,7 +185,7 @@ fn assignment_of(alloc: Global, tokens: &[Token]) -> Result<(Assignment, &[Token
 }
 
 #[tactic(auto, unfolding(crate::specs::TreeReading::port_at))]
-fn port_of(alloc: Global, tokens: &[Token]) -> Result<(PortDeclaration, &[Token]), Stop>
+fn port_of(alloc: Global, tokens: &[Token]) -> Result<(PortDeclaration, &[Token]), Unread>
     ensures { Gives (λ x. (x.0, x.1.now)) result (port_at tokens.now) }
 {
     let (direction, rest) = direction_of(tokens)?;
@@ -195,7 +195,7 @@ fn port_of(alloc: Global, tokens: &[Token]) -> Result<(PortDeclaration, &[Token]
 }
 
 #[tactic(auto, unfolding(crate::specs::TreeReading::next_port_at))]
-fn next_port_of(alloc: Global, tokens: &[Token]) -> Result<(PortDeclaration, &[Token]), Stop>
+fn next_port_of(alloc: Global, tokens: &[Token]) -> Result<(PortDeclaration, &[Token]), Unread>
     ensures { Gives (λ x. (x.0, x.1.now)) result (next_port_at tokens.now) }
 {
     let rest = after_text(",", tokens)?;
@@ -206,7 +206,7 @@ fn next_ports_of(
     alloc: Global,
     first: PortDeclaration,
     tokens: &[Token],
-) -> Result<(Vec<PortDeclaration>, &[Token]), Stop>
+) -> Result<(Vec<PortDeclaration>, &[Token]), Unread>
     ensures { Gives (λ x. (x.0.items, x.1.now)) result (with_front (first ∷ []) (next_ports_at tokens.now)) }
 {
     let mut ports = Vec::new(alloc);
@@ -221,14 +221,14 @@ fn next_ports_of(
 }
 
 #[tactic(auto, unfolding(crate::specs::TreeReading::ports_at))]
-fn ports_of(alloc: Global, tokens: &[Token]) -> Result<(Vec<PortDeclaration>, &[Token]), Stop>
+fn ports_of(alloc: Global, tokens: &[Token]) -> Result<(Vec<PortDeclaration>, &[Token]), Unread>
     ensures { Gives (λ x. (x.0.items, x.1.now)) result (ports_at tokens.now) }
 {
     let (first, rest) = port_of(alloc, tokens)?;
     next_ports_of(alloc, first, rest)
 }
 
-fn assignments_of(alloc: Global, tokens: &[Token]) -> Result<(Vec<Assignment>, &[Token]), Stop>
+fn assignments_of(alloc: Global, tokens: &[Token]) -> Result<(Vec<Assignment>, &[Token]), Unread>
     ensures { Gives (λ x. (x.0.items, x.1.now)) result (assignments_at tokens.now) }
 {
     let mut assignments = Vec::new(alloc);
@@ -242,7 +242,7 @@ fn assignments_of(alloc: Global, tokens: &[Token]) -> Result<(Vec<Assignment>, &
 }
 
 #[tactic(auto, unfolding(crate::specs::TreeReading::module_at))]
-fn module_of(alloc: Global, tokens: &[Token]) -> Result<Module, Stop>
+fn module_of(alloc: Global, tokens: &[Token]) -> Result<Module, Unread>
     ensures { Gives (λ m. m) result (module_at tokens.now) }
 {
     let rest = after_text("module", tokens)?;
@@ -254,7 +254,7 @@ fn module_of(alloc: Global, tokens: &[Token]) -> Result<Module, Stop>
     let (assignments, rest) = assignments_of(alloc, rest)?;
     let rest = after_text("endmodule", rest)?;
     if !rest.is_empty() {
-        return Err(Stop::Unexpected);
+        return Err(Unread::Unexpected);
     }
     Ok(Module {
         name,
@@ -270,7 +270,7 @@ pub fn parse(alloc: Global, tokens: &[Token]) -> Result<Option<Module>, AllocErr
 {
     match module_of(alloc, tokens) {
         Ok(read) => Ok(Some(read)),
-        Err(Stop::Unexpected) => Ok(None),
-        Err(Stop::NoMemory) => Err(AllocError),
+        Err(Unread::Unexpected) => Ok(None),
+        Err(Unread::NoMemory) => Err(AllocError),
     }
 }

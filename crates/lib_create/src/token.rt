@@ -35,7 +35,10 @@ fn name_len(bytes: &[u8]) -> usize
     ensures value { result ≡ prefix_len continues_name bytes.now }
     ensures within { result ≤ length bytes.now }
 {
-    bytes.iter().take_while(|byte| continues_name(**byte)).count()
+    bytes
+        .iter()
+        .take_while(|byte| continues_name(**byte))
+        .count()
 }
 
 fn token_len(bytes: &[u8]) -> usize

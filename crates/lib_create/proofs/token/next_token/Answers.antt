@@ -12,7 +12,7 @@ returns-then-is_empty-clause-none c =
     all_blank c.args.bytes.now c.split_at.result.1.now back none
 
 pub returns-clause-found : goal.returns-clause-found
-returns-clause-found c = 
+returns-clause-found c =
     let some : 0 < length c.split_at.result.1.now = omega (arith, false-eqb _ 0 c.if-is_empty.ensures) in
     rw (c.line_ends.ensures.value) (next_found c.args.file c.args.line c.args.bytes.now c.split_at.result.0.now c.split_at.result.1.now c.in_ok-text.text c.split_at-2.result.1.now
     (c.split_at.ensures.front ∙ ap (λ (n : ℕ). take n c.args.bytes.now) c.blank_len.ensures.value)
