@@ -1,3 +1,9 @@
+pub mod TokenLemmas
+pub mod TreeLemmas
+pub mod PartLemmas
+pub mod ManyLemmas
+pub mod ModuleLemmas
+pub mod CutLemmas
 pub mod TraceText
 pub mod StimulusWords
 pub mod StimulusSettings

@@ -10,6 +10,8 @@ pub mod StimulusSteps
 pub mod Order
 pub mod Outcome
 pub mod Answer
+pub mod TokenReading
+pub mod TreeReading
 pub mod CommandWords
 pub mod Loading
 pub mod Verdicts

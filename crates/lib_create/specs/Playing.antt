@@ -1,14 +1,25 @@
 -- How far a run has come.
 use Rattle.std.specs.Prelude.{◌≡◌, ℕ, List, ◌++◌, Option, None, Some, ⊤}
+use Rattle.io_edge.specs.Fault.{Rose}
 use Rattle.io_edge.specs.Told.{Added, AddedFront}
+use Rattle.lib_create.specs.declared.stop.Stop.{Stop}
+use Rattle.lib_create.specs.declared.stop.Stop.TheVariants.{ReadFault, WriteFault, NoMemory}
 use Rattle.net_ir.specs.declared.design.Spec.{Spec}
 use Rattle.net_ir.specs.Run.{State}
-use Rattle.net_ir.specs.Trace.{Shows, GoesOn}
+use Rattle.net_ir.specs.Trace.{GoesOn}
 use Rattle.lib_create.specs.Stimulus.{BadLine, Script}
 
--- the line of a step was added, or a front of it where the result is an error
-pub record Showed (spec : Spec) (number : ℕ) (state : State) (bytes : List ℕ) : Type 0 where
-  pub shows : Shows spec number state bytes
+-- only a write that failed is told as a fault
+abbrev pub IsWriteCause : Stop → ℕ → ℕ → Type 0
+IsWriteCause ReadFault before now = ⊥
+IsWriteCause WriteFault before now = Rose before now
+IsWriteCause NoMemory before now = ⊤
+
+-- only a read or a write that failed is told as a fault, of these counts of reads and of writes
+abbrev pub IsPlayCause : Stop → ℕ → ℕ → ℕ → ℕ → Type 0
+IsPlayCause ReadFault reads_before reads_now writes_before writes_now = Rose reads_before reads_now
+IsPlayCause WriteFault reads_before reads_now writes_before writes_now = Rose writes_before writes_now
+IsPlayCause NoMemory reads_before reads_now writes_before writes_now = ⊤
 
 -- what was to be played from a state on, and what is still to be played from the state of the step of this number: these bytes lie between
 pub record HasPlayed (spec : Spec) (first : State) (whole : Script) (bytes : List ℕ) (number : ℕ) (state : State) (rest : Script) : Type 0 where

@@ -5,7 +5,7 @@ use Rattle.net_ir.specs.Run.{Values}
 use Rattle.lib_create.specs.Stimulus.{Line, Script, ended, stopped, with_step, lines_of, words_of, content_of, span, meaning_of_words, script_of_meaning, script_from}
 use Rattle.lib_create.specs.StimulusReading.{settings_seen}
 use Rattle.lib_create.specs.declared.setting.Setting.{Setting}
-use Rattle.lib_create.specs.declared.step.BadLine.{BadLine}
+use Rattle.lib_create.specs.declared.verdict.BadLine.{BadLine}
 use Rattle.lib_create.specs.declared.step.Next.{Next}
 use Rattle.lib_create.specs.declared.step.Next.TheVariants.{End, Step, Bad}
 use Rattle.lib_create.specs.declared.step.StepReader.{StepReader}

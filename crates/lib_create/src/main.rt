@@ -3,12 +3,16 @@
 
 mod bench;
 mod command;
+mod law;
 mod load;
 mod found;
 mod line;
 mod order;
+mod parser;
+mod play;
 mod reason;
 mod setting;
+mod source;
 mod spelling;
 mod step;
 mod stop;

@@ -8,19 +8,11 @@ use crate::line::{Meaning, read_line};
 use crate::reason::Reason;
 use crate::setting::Setting;
 use crate::stop::Stop;
+use crate::verdict::BadLine;
 use io_edge::Source;
 use net_ir::Var;
 use std::alloc::{AllocError, Global};
 use sv_base::Name;
-
-/// The first bad line of a stimulus: its number, counted from 1, and what its message names, which is empty where
-/// it names nothing.
-#[derive(Debug, Drop)]
-pub struct BadLine {
-    pub line: u64,
-    pub reason: Reason,
-    pub word: Name,
-}
 
 /// What comes next in a stimulus.
 #[derive(Debug, Drop)]
@@ -49,9 +41,9 @@ pub struct StepReader {
 }
 
 impl StepReader {
-    ghost use Rattle.std.specs.Prelude.{◌≡◌, ◌+◌, ◌<◌, ◌≤◌, [], length, IfOk, IfErr, IfNone, Some};
+    ghost use Rattle.std.specs.Prelude.{◌≡◌, ◌+◌, ◌<◌, ◌≤◌, [], length, IfOk, IfErr, IfNone, None, Some};
     ghost use Rattle.std.specs.List.{AllByRecursion};
-    ghost use Rattle.net_ir.specs.Plain.{HasVars};
+    ghost use Rattle.net_ir.specs.Plain.{HaveInitialValues};
     ghost use Rattle.lib_create.specs.Stimulus.{script_of, span};
     ghost use Rattle.lib_create.specs.StimulusReading.{IsSettable};
     ghost use Rattle.lib_create.specs.StimulusSource.{LeftSo, IsCause};
@@ -85,11 +77,13 @@ impl StepReader {
         vars: &[Var],
         ended: bool,
     ) -> Result<Option<Next>, AllocError>
-        requires vars { HasVars vars.now }
+        requires vars { HaveInitialValues vars.now }
         requires some { 0 < span (line_in self.old ended) }
         requires within { self.old.at + span (line_in self.old ended) ≤ 1073741824 }
         ensures gives { IfOk result (Judges vars.now self.old self.new ended) }
         ensures settable { IfOk result (λ next. next ≡ Some Next.Step → AllByRecursion (IsSettable vars.now) (settings_of_step self.new)) }
+        ensures fewer { IfOk result (λ next. next ≡ Some Next.Step → self.new.more < self.old.more) }
+        ensures same { IfOk result (λ next. next ≡ None → self.new.more ≡ self.old.more) }
     {
         let number = self.number;
         self.at += bytes_of(self.line.len(), ended);
@@ -124,9 +118,11 @@ impl StepReader {
         vars: &[Var],
         source: &mut S,
     ) -> Result<Option<Next>, Stop>
-        requires { HasVars vars.now }
+        requires { HaveInitialValues vars.now }
         ensures gives { IfOk result (λ next. LeftSo (S.left source.old) (S.left source.new) (GivesLine vars.now self.old self.new next)) }
         ensures settable { IfOk result (λ next. next ≡ Some Next.Step → AllByRecursion (IsSettable vars.now) (settings_of_step self.new)) }
+        ensures fewer { IfOk result (λ next. next ≡ Some Next.Step → self.new.more < self.old.more) }
+        ensures same { IfOk result (λ next. next ≡ None → self.new.more ≡ self.old.more) }
         ensures on { IfOk result (λ next. IfNone next (self.old.at < self.new.at)) }
         ensures cause { IfErr result (λ stop. IsCause stop (S.faults source.old) (S.faults source.new)) }
         ensures ground { S.same_ground source.old source.new }
@@ -152,9 +148,10 @@ impl StepReader {
         vars: &[Var],
         source: &mut S,
     ) -> Result<Next, Stop>
-        requires { HasVars vars.now }
+        requires { HaveInitialValues vars.now }
         ensures gives { IfOk result (λ next. LeftSo (S.left source.old) (S.left source.new) (Gives vars.now self.old self.new next)) }
         ensures settable { IfOk result (λ next. next ≡ Next.Step → AllByRecursion (IsSettable vars.now) (settings_of_step self.new)) }
+        ensures fewer { IfOk result (λ next. next ≡ Next.Step → self.new.more < self.old.more) }
         ensures cause { IfErr result (λ stop. IsCause stop (S.faults source.old) (S.faults source.new)) }
         ensures ground { S.same_ground source.old source.new }
         ensures later { S.faults source.old ≤ S.faults source.new }

@@ -1,0 +1,5 @@
+use Rattle.lib_create.proofs.CutLemmas.{one_module}
+use Rattle.lib_create.proofs.law.one_module.Goals as goal
+
+pub returns : goal.returns
+returns c = one_module
