@@ -9,7 +9,7 @@ use std::rt::Files;
 use std::{fs, io};
 
 /// The files of the system. A name is a path, relative to the current directory. It tells no content; its two
-/// counts are 0 where it is made.
+/// counts are 0 where it is made. Each read opens its file anew.
 #[derive(Drop)]
 pub struct DiskFolder<'r, R> {
     pub rt: &'r R,
