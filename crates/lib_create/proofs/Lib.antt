@@ -10,3 +10,4 @@ pub mod StimulusSettings
 pub mod StimulusLines
 pub mod BenchSteps
 pub mod StimulusBytes
+pub mod Played
