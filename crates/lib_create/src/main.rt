@@ -8,6 +8,8 @@ mod reason;
 mod setting;
 mod spelling;
 mod step;
+#[cfg(test)]
+mod stimulus_tests;
 mod stop;
 mod token;
 mod tree;
