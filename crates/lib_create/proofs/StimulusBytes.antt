@@ -1,8 +1,7 @@
 -- The lines of bytes that were read one after another.
-use Rattle.std.proofs.Common.{◌≡◌, ℕ, zero, suc, ◌+◌, ◌<◌, ◌≤◌, Bool, true, false, ◌==◌, List, [], ◌∷◌, ◌++◌, length, refl, sym, ap, subst, ◌∙◌, arith, append-nil, Option, None, Some, if◌then◌else◌}
+use Rattle.std.proofs.Common.{◌≡◌, ℕ, suc, ◌+◌, ◌<◌, ◌≤◌, Bool, true, false, ◌==◌, List, [], ◌∷◌, ◌++◌, length, refl, sym, ap, subst, ◌∙◌, arith, append-nil, Option, None, Some}
 use Rattle.std.specs.List.{AllByRecursion}
 use Rattle.std.proofs.lemmas.Bool.Decides.{nat_tests}
-use Rattle.lib_create.specs.declared.reason.Reason.{Reason}
 use Rattle.lib_create.specs.declared.reason.Reason.TheVariants.{LineTooLong, FileTooLong}
 use Rattle.lib_create.specs.declared.found.Found.{Found}
 use Rattle.lib_create.specs.declared.found.Found.TheVariants as found

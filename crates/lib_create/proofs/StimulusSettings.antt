@@ -1,5 +1,5 @@
 -- What the parts of a setting say.
-use Rattle.std.proofs.Common.{◌≡◌, ℕ, zero, suc, ◌+◌, ◌*◌, ◌^◌, ◌<◌, ◌≤◌, Bool, true, false, cond, ◌&&◌, ◌||◌, ◌==◌, List, [], ◌∷◌, ◌++◌, length, take, drop, get_or, map, reverse, refl, sym, ap, subst, ◌∙◌, arith, add-one, nat_lt, if◌then◌else◌, Option, None, Some, Ok, Err, Result, MatchOption, slice_get, drop-cons}
+use Rattle.std.proofs.Common.{◌≡◌, ℕ, zero, suc, ◌+◌, ◌*◌, ◌^◌, ◌<◌, ◌≤◌, Bool, true, false, cond, ◌&&◌, ◌||◌, ◌==◌, List, [], ◌∷◌, length, take, drop, get_or, map, reverse, refl, sym, ap, subst, ◌∙◌, arith, add-one, nat_lt, if◌then◌else◌, Option, None, Some, Err, Result, MatchOption, slice_get, drop-cons}
 use Rattle.std.specs.List.{position, position_from, list_any, AllByRecursion}
 use Rattle.std.specs.Str.{bytes_eq}
 use Rattle.std.proofs.Math.Nat.{pow-le-pow_right, pow-suc}
@@ -13,7 +13,7 @@ use Rattle.net_ir.specs.Plain.{HaveInitialValues}
 use Rattle.bit_ops.specs.declared.value.Bits.{Bits}
 use Rattle.std.proofs.lemmas.Option.{get_or_from_slice_get}
 use Rattle.net_ir.specs.Run.{Setting as Assigned}
-use Rattle.lib_create.specs.declared.reason.Reason.TheVariants.{NoStep, NoSetting, NoInput, SetTwice, NoValue}
+use Rattle.lib_create.specs.declared.reason.Reason.TheVariants.{SetTwice}
 use Rattle.lib_create.specs.declared.setting.Setting.{Setting}
 use Rattle.lib_create.specs.Spelling.{is_name}
 use Rattle.lib_create.specs.Stimulus.{Fault, digit_of, more_digits, number_from, word_in, parts_of, before_first_part, named_part, is_input, input_from, setting_of, setting_of_parts, set_input, valued}

@@ -1,7 +1,6 @@
 -- What the reader of a stimulus answers.
 use Rattle.std.specs.Prelude.{◌≡◌, ℕ, List}
 use Rattle.lib_create.specs.declared.reason.Reason.{Reason}
-use Rattle.lib_create.specs.declared.verdict.BadLine.{BadLine}
 use Rattle.lib_create.specs.declared.step.Next.{Next}
 use Rattle.lib_create.specs.declared.step.Next.TheVariants.{End, Step, Bad}
 

@@ -1,5 +1,5 @@
 -- What the reader of a stimulus has, in the terms of the definition.
-use Rattle.std.specs.Prelude.{◌≡◌, ℕ, ◌<◌, List, [], ◌∷◌, length, map, reverse, slice_get, Option, None, Some, Result, Ok, Err}
+use Rattle.std.specs.Prelude.{◌≡◌, ℕ, ◌<◌, List, length, map, reverse, slice_get, Some, Result, Ok, Err}
 use Rattle.net_ir.specs.declared.design.Role.TheVariants.{Input}
 use Rattle.net_ir.specs.declared.design.Var.{Var}
 use Rattle.net_ir.specs.Run.{Setting as Assigned}

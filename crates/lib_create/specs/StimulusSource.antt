@@ -1,7 +1,6 @@
 -- What is read from a source of a stimulus.
-use Rattle.std.specs.Prelude.{◌≡◌, ℕ, ◌+◌, ◌<◌, ◌≤◌, Bool, true, false, ◌==◌, List, [], ◌∷◌, ◌++◌, length, ⊤, Option, None, Some}
+use Rattle.std.specs.Prelude.{◌≡◌, ℕ, ◌+◌, ◌<◌, ◌≤◌, true, false, ◌==◌, List, [], ◌∷◌, ⊤, Option, None, Some}
 use Rattle.io_edge.specs.Fault.{Rose}
-use Rattle.lib_create.specs.declared.reason.Reason.{Reason}
 use Rattle.lib_create.specs.declared.reason.Reason.TheVariants.{LineTooLong, FileTooLong}
 use Rattle.lib_create.specs.declared.stop.Stop.{Stop}
 use Rattle.lib_create.specs.declared.stop.Stop.TheVariants.{ReadFault, WriteFault, NoMemory}

@@ -1,11 +1,10 @@
 -- What the reader of a stimulus gives, step by step.
-use Rattle.std.specs.Prelude.{◌≡◌, ℕ, ◌+◌, ◌-◌, ◌<◌, Bool, List, Option, None, Some}
+use Rattle.std.specs.Prelude.{◌≡◌, ℕ, ◌+◌, ◌-◌, Bool, List, Option, None, Some}
 use Rattle.net_ir.specs.declared.design.Var.{Var}
 use Rattle.net_ir.specs.Run.{Values}
 use Rattle.lib_create.specs.Stimulus.{Line, Script, ended, stopped, with_step, lines_of, words_of, content_of, span, meaning_of_words, script_of_meaning, script_from}
 use Rattle.lib_create.specs.StimulusReading.{settings_seen}
 use Rattle.lib_create.specs.declared.setting.Setting.{Setting}
-use Rattle.lib_create.specs.declared.verdict.BadLine.{BadLine}
 use Rattle.lib_create.specs.declared.step.Next.{Next}
 use Rattle.lib_create.specs.declared.step.Next.TheVariants.{End, Step, Bad}
 use Rattle.lib_create.specs.declared.step.StepReader.{StepReader}

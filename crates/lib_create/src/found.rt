@@ -88,3 +88,52 @@ pub fn take_line<S: Source>(at: u64, line: &mut Vec<u8>, source: &mut S) -> Resu
         }
     }
 }
+
+#[cfg(test)]
+mod tests {
+    use super::*;
+    use crate::reason::Reason::{FileTooLong, LineTooLong};
+
+    #[test]
+    fn limits_come_by_their_first_byte(rt: HostRuntime) {
+        for (at, len, byte, wanted) in [
+            (1_073_741_823, 0, b'd', Turn::More(b'd')),
+            (
+                1_073_741_823,
+                0,
+                b'\n',
+                Turn::Done(Found::Line { ended: true }),
+            ),
+            (1_073_741_824, 0, b'd', Turn::Done(Found::Long(FileTooLong))),
+            (
+                1_073_741_824,
+                0,
+                b'\n',
+                Turn::Done(Found::Long(FileTooLong)),
+            ),
+            (
+                1_073_676_288,
+                65_536,
+                b'd',
+                Turn::Done(Found::Long(LineTooLong)),
+            ),
+            (
+                1_073_676_288,
+                65_536,
+                b'\n',
+                Turn::Done(Found::Long(FileTooLong)),
+            ),
+            (
+                1_073_676_289,
+                65_535,
+                b'd',
+                Turn::Done(Found::Long(FileTooLong)),
+            ),
+            (0, 65_536, b'\n', Turn::Done(Found::Line { ended: true })),
+            (0, 65_536, b'\r', Turn::Done(Found::Long(LineTooLong))),
+        ] {
+            assert_eq!(rt; next_turn(at, len, Some(byte)), wanted, "{at} {len}");
+        }
+        assert_eq!(rt; next_turn(1_073_741_824, 0, None), Turn::Done(Found::End));
+    }
+}

@@ -15,6 +15,8 @@ mod setting;
 mod source;
 mod spelling;
 mod step;
+#[cfg(test)]
+mod stimulus_tests;
 mod stop;
 mod token;
 mod trace;

@@ -1,6 +1,7 @@
 //! The steps of a stimulus, read one after another.
 
 ghost use Rattle.std.specs.Prelude.{◌≡◌, ◌+◌, ◌<◌, ◌≤◌, ◌^◌, [], if◌then◌else◌};
+ghost use Rattle.lib_create.specs.Stimulus.{file_limit};
 ghost use Rattle.lib_create.specs.StimulusNext.{IsBadLine};
 
 use crate::found::{Found, LINE_LIMIT, take_line};
@@ -36,13 +37,14 @@ pub struct StepReader {
     at: u64,
     line: Vec<u8>,
     settings: Vec<Setting>,
-    ghost within: { at ≤ 1073741824 },
+    ghost within: { at ≤ file_limit },
     ghost counted: { number ≤ at + 1 },
 }
 
 impl StepReader {
-    ghost use Rattle.std.specs.Prelude.{◌≡◌, ◌+◌, ◌<◌, ◌≤◌, [], length, IfOk, IfErr, IfNone, None, Some};
+    ghost use Rattle.std.specs.Prelude.{◌≡◌, ℕ, ◌+◌, ◌<◌, ◌≤◌, List, [], length, IfOk, IfErr, IfNone, None, Some};
     ghost use Rattle.std.specs.List.{AllByRecursion};
+    ghost use Rattle.net_ir.specs.declared.design.Var.{Var};
     ghost use Rattle.net_ir.specs.Plain.{HaveInitialValues};
     ghost use Rattle.lib_create.specs.Stimulus.{script_of, span};
     ghost use Rattle.lib_create.specs.StimulusReading.{IsSettable};
@@ -51,7 +53,7 @@ impl StepReader {
 
     /// A reader at the front of a file, in which at most so many steps are allowed.
     pub fn new(alloc: Global, most: u64) -> Result<StepReader, AllocError>
-        ensures start { IfOk result (λ reader. (reader.more ≡ most) × (reader.number ≡ 1) × (reader.at ≡ 0)) }
+        ensures start { IfOk result (λ reader. (vars : List Var) (bytes : List ℕ) → script_left vars reader bytes ≡ script_of vars most bytes) }
         ensures empty { IfOk result (λ reader. settings_of_step reader ≡ []) }
     {
         Ok(StepReader {
@@ -79,7 +81,7 @@ impl StepReader {
     ) -> Result<Option<Next>, AllocError>
         requires vars { HaveInitialValues vars.now }
         requires some { 0 < span (line_in self.old ended) }
-        requires within { self.old.at + span (line_in self.old ended) ≤ 1073741824 }
+        requires within { self.old.at + span (line_in self.old ended) ≤ file_limit }
         ensures gives { IfOk result (Judges vars.now self.old self.new ended) }
         ensures settable { IfOk result (λ next. next ≡ Some Next.Step → AllByRecursion (IsSettable vars.now) (settings_of_step self.new)) }
         ensures fewer { IfOk result (λ next. next ≡ Some Next.Step → self.new.more < self.old.more) }
