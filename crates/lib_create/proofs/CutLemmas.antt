@@ -1,15 +1,14 @@
 -- A text is cut in one way at most, and spells one module at most.
-use Rattle.std.proofs.Common.{◌≡◌, ℕ, suc, ◌+◌, ◌<◌, ◌≤◌, Bool, true, false, cond, List, [], ◌∷◌, ◌++◌, length, take, drop, refl, sym, ap, subst, ◌∙◌, arith, inl, inr}
-use Rattle.std.specs.Prelude.{◌&&◌, ◌||◌, ◌==◌, ◌⊎◌, IsTrue, Option, Some, None, Result, Ok, Err, IfOk, IfNone}
+use Rattle.std.proofs.Common.{◌≡◌, ℕ, ◌+◌, ◌<◌, Bool, true, false, cond, List, [], ◌∷◌, ◌++◌, length, take, drop, refl, sym, ap, subst, ◌∙◌, arith, inl, inr}
+use Rattle.std.specs.Prelude.{◌||◌, ◌==◌, IsTrue, Option, Some, None, Result, Ok, Err, IfOk, IfNone}
 use Rattle.std.specs.List.{list_all, prefix_len}
-use Rattle.std.proofs.Math.Numerals.{one-add}
 use Rattle.std.proofs.lemmas.Bool.{and_parts, or_cases, eqb-true}
 use Rattle.std.proofs.lemmas.List.{take_at, drop_at}
 use Rattle.std.proofs.lemmas.List.Folds.{list_all-append}
 use Rattle.lib_create.specs.Spelling.{begins_name, continues_name, is_name}
 use Rattle.lib_create.specs.declared.token.Token.{Token}
 use Rattle.lib_create.specs.declared.tree.Module.{Module}
-use Rattle.lib_create.specs.Grammar.{is_blank, line_ends, EndsName, IsSingle, IsTokenText, IsCut, Fill, module_slots, Spells}
+use Rattle.lib_create.specs.Grammar.{is_blank, line_ends, EndsName, IsTokenText, IsCut, Fill, module_slots, Spells}
 use Rattle.lib_create.specs.TokenReading.{token_len}
 use Rattle.lib_create.proofs.TokenLemmas.{FailsFirst}
 use Rattle.lib_create.proofs.ModuleLemmas.{one_tree}

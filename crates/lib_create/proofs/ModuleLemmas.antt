@@ -1,5 +1,5 @@
 -- A module that is read fills its slots, and what fills its slots is read again.
-use Rattle.std.proofs.Common.{◌≡◌, ℕ, zero, suc, ◌+◌, ◌<◌, ◌≤◌, true, false, List, [], ◌∷◌, ◌++◌, length, Option, Some, None, refl, sym, ap, subst, ◌∙◌, append_assoc, arith}
+use Rattle.std.proofs.Common.{◌≡◌, ℕ, ◌<◌, false, List, [], ◌∷◌, ◌++◌, length, Option, Some, refl, sym, ap, subst, ◌∙◌, append_assoc, arith}
 use Rattle.std.specs.Prelude.{codes}
 use Rattle.std.specs.List.{flat_map}
 use Rattle.std.proofs.lemmas.List.{append-nil}
@@ -8,7 +8,7 @@ use Rattle.lib_create.specs.declared.tree.PortDeclaration.{PortDeclaration}
 use Rattle.lib_create.specs.declared.tree.Assignment.{Assignment}
 use Rattle.lib_create.specs.declared.tree.Module.{Module}
 use Rattle.lib_create.specs.Grammar.{Slot, Text, Identifier, Fill, assignment_slots, port_slots, port_list_slots, module_slots}
-use Rattle.lib_create.specs.TreeReading.{◌>>=◌, begins_with, text_at, identifier_at, assignment_at, port_at, next_port_at, many_at, assignments_at, next_ports_at, ports_at, at_end, module_at, with_front}
+use Rattle.lib_create.specs.TreeReading.{◌>>=◌, begins_with, text_at, identifier_at, assignment_at, port_at, next_port_at, assignments_at, next_ports_at, ports_at, at_end, module_at, with_front}
 use Rattle.lib_create.proofs.TreeLemmas.{bind_some, some_is, Takes, takes_split, takes_join, takes_length, takes_fill, fill_takes, text_takes, text_again, begins_is, identifier_takes, identifier_again, end_is}
 use Rattle.lib_create.proofs.PartLemmas.{assignment_takes, assignment_again, assignment_begins, port_takes, port_again, next_port_slots, next_port_takes, next_port_again, next_port_begins}
 use Rattle.lib_create.proofs.ManyLemmas.{IsPart, many_take, many_again}

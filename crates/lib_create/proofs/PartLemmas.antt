@@ -1,8 +1,6 @@
 -- Each part of a module that is read fills its slots, and what fills its slots is read again.
-use Rattle.std.proofs.Common.{◌≡◌, ℕ, zero, suc, ◌+◌, ◌<◌, ◌≤◌, Bool, true, false, cond, List, [], ◌∷◌, ◌++◌, length, Option, Some, None, refl, sym, ap, subst, ◌∙◌, arith, inl, inr}
-use Rattle.std.specs.Prelude.{◌⊎◌, codes}
-use Rattle.std.specs.List.{flat_map}
-use Rattle.std.proofs.lemmas.List.{append-nil}
+use Rattle.std.proofs.Common.{◌≡◌, true, List, [], ◌∷◌, ◌++◌, Option, Some, None, refl, subst}
+use Rattle.std.specs.Prelude.{codes}
 use Rattle.lib_create.specs.declared.token.Token.{Token}
 use Rattle.lib_create.specs.declared.tree.Operator.{Operator}
 use Rattle.lib_create.specs.declared.tree.Operand.{Operand}
@@ -10,10 +8,9 @@ use Rattle.lib_create.specs.declared.tree.Expression.{Expression}
 use Rattle.lib_create.specs.declared.tree.Expression.TheVariants.{Single, Pair}
 use Rattle.lib_create.specs.declared.tree.PortDeclaration.{PortDeclaration}
 use Rattle.lib_create.specs.declared.tree.Assignment.{Assignment}
-use Rattle.lib_create.specs.declared.tree.Module.{Module}
-use Rattle.lib_create.specs.Grammar.{Slot, Text, Identifier, Fill, negation, operand_slots, sign_of, expression_slots, assignment_slots, direction_text, port_slots, port_list_slots, module_slots}
-use Rattle.lib_create.specs.TreeReading.{◌>>=◌, begins_with, text_at, identifier_at, negation_at, operator_at, direction_at, operand_at, after_operand, expression_at, assignment_at, port_at, next_port_at, many_at, assignments_at, next_ports_at, ports_at, at_end, module_at}
-use Rattle.lib_create.proofs.TreeLemmas.{bind_some, some_is, Takes, takes_split, takes_join, takes_length, takes_fill, fill_takes, text_takes, text_again, begins_is, identifier_takes, identifier_again, direction_takes, direction_again, operator_takes, operator_again, no_operator, negation_takes, negation_again, end_is}
+use Rattle.lib_create.specs.Grammar.{Slot, Text, Identifier, negation, operand_slots, sign_of, expression_slots, assignment_slots, direction_text, port_slots}
+use Rattle.lib_create.specs.TreeReading.{◌>>=◌, begins_with, text_at, identifier_at, negation_at, operator_at, direction_at, operand_at, after_operand, expression_at, assignment_at, port_at, next_port_at}
+use Rattle.lib_create.proofs.TreeLemmas.{bind_some, some_is, Takes, takes_split, takes_join, text_takes, text_again, begins_is, identifier_takes, identifier_again, direction_takes, direction_again, operator_takes, operator_again, no_operator, negation_takes, negation_again}
 
 -- ---- expressions
 

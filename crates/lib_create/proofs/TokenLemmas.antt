@@ -1,13 +1,12 @@
 -- The token at the front of a text is the first of a cut of it.
-use Rattle.std.proofs.Common.{◌≡◌, ℕ, suc, ◌+◌, ◌<◌, ◌≤◌, Bool, true, false, cond, List, [], ◌∷◌, ◌++◌, length, take, drop, refl, sym, ap, subst, ◌∙◌, append_assoc, arith, inl, inr, take-append-drop}
-use Rattle.std.specs.Prelude.{◌&&◌, ◌⊎◌, IsTrue}
+use Rattle.std.proofs.Common.{◌≡◌, ℕ, ◌+◌, ◌<◌, Bool, true, false, cond, List, [], ◌∷◌, ◌++◌, length, take, drop, refl, sym, ap, subst, ◌∙◌, arith, inl, inr, take-append-drop}
+use Rattle.std.specs.Prelude.{◌&&◌, IsTrue}
 use Rattle.std.specs.List.{list_all, prefix_len}
 use Rattle.std.proofs.Math.Numerals.{one-add}
-use Rattle.std.proofs.lemmas.List.{length-append, append-nil, nil_from_length}
-use Rattle.std.proofs.lemmas.List.Sums.{count_by-le-length}
-use Rattle.lib_create.specs.Spelling.{begins_name, continues_name, is_name}
+use Rattle.std.proofs.lemmas.List.{append-nil, nil_from_length}
+use Rattle.lib_create.specs.Spelling.{begins_name, continues_name}
 use Rattle.lib_create.specs.declared.token.Token.{Token}
-use Rattle.lib_create.specs.Grammar.{is_blank, line_ends, EndsName, IsSingle, IsTokenText, IsCut}
+use Rattle.lib_create.specs.Grammar.{is_blank, line_ends, EndsName, IsTokenText, IsCut}
 use Rattle.lib_create.specs.TokenReading.{token_len, IsNext}
 
 -- no element that passes stands at the front

@@ -1,9 +1,9 @@
-use Rattle.std.proofs.Common.{◌≡◌, ◌++◌, ◌∷◌, [], true, false, sym, ◌∙◌}
+use Rattle.std.proofs.Common.{sym, ◌∙◌}
 use Rattle.std.specs.Prelude.{codes}
 use Rattle.std.proofs.lemmas.Result.{err_from_is_err_and}
 use Rattle.lib_create.specs.Grammar.{assignment_slots}
-use Rattle.lib_create.specs.TreeReading.{begins_with, assignment_at, assignments_at}
-use Rattle.lib_create.proofs.ManyLemmas.{starts_empty, goes_on, ends, is_done}
+use Rattle.lib_create.specs.TreeReading.{assignment_at, assignments_at}
+use Rattle.lib_create.proofs.ManyLemmas.{goes_on, ends, is_done}
 use Rattle.lib_create.proofs.ModuleLemmas.{assignments_part, shorter}
 use Rattle.lib_create.proofs.parser.assignments_of.Goals as goal
 

@@ -1,7 +1,7 @@
-use Rattle.std.proofs.Common.{◌≡◌, ◌++◌, ◌∷◌, [], true, false, sym, ◌∙◌}
+use Rattle.std.proofs.Common.{◌∷◌, [], sym, ◌∙◌}
 use Rattle.std.specs.Prelude.{codes}
 use Rattle.std.proofs.lemmas.Result.{err_from_is_err_and}
-use Rattle.lib_create.specs.TreeReading.{begins_with, next_port_at, next_ports_at, with_front}
+use Rattle.lib_create.specs.TreeReading.{next_port_at, next_ports_at, with_front}
 use Rattle.lib_create.proofs.PartLemmas.{next_port_slots}
 use Rattle.lib_create.proofs.ManyLemmas.{goes_on, ends, is_done}
 use Rattle.lib_create.proofs.ModuleLemmas.{next_ports_part, shorter}

@@ -1,6 +1,5 @@
-use Rattle.std.proofs.Common.{◌≡◌, ◌≤◌, ◌+◌, List, [], ◌∷◌, ◌++◌, length, is_ok, ap, sym, subst, append_assoc, arith}
+use Rattle.std.proofs.Common.{◌≡◌, List, [], ◌∷◌, ◌++◌, sym, subst, append_assoc, arith}
 use Rattle.std.proofs.lemmas.List.{append-nil}
-use Rattle.std.proofs.ResultArms.{chosen}
 use Rattle.lib_create.specs.declared.token.Token.{Token}
 use Rattle.lib_create.specs.Grammar.{IsCut}
 use Rattle.lib_create.proofs.TokenLemmas.{cut_more}
