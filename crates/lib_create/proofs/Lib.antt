@@ -1,1 +1,4 @@
 pub mod TraceText
+pub mod Naming
+pub mod Binding
+pub mod Plain

@@ -9,3 +9,4 @@ pub mod Answer
 pub mod CommandWords
 pub mod Loading
 pub mod Verdicts
+pub mod Elaborating

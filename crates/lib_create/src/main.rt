@@ -2,6 +2,7 @@
 #![tactic(auto)]
 
 mod command;
+mod elaboration;
 mod load;
 mod order;
 mod reason;
