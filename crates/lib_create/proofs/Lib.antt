@@ -2,3 +2,4 @@ pub mod TraceText
 pub mod Naming
 pub mod Binding
 pub mod Plain
+pub mod Elaborated

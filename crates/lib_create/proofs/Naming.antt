@@ -19,14 +19,16 @@ use Rattle.lib_create.specs.Elaborating.{port_names, number_in, AreNumbers}
 
 -- ---- the first place, with one item more
 
+first_or : (b : Bool) (i : ℕ) (whole rest last : Option ℕ) → whole ≡ option_or rest last → cond b (Some i) whole ≡ option_or (cond b (Some i) rest) last
+first_or true i whole rest last is = refl
+first_or false i whole rest last is = is
+
 first_of_more : {X : Type 0} (t : X → Bool) (i : ℕ) (xs : List X) (y : X) → position_from t i (xs ++ y ∷ []) ≡ option_or (position_from t i xs) (cond (t y) (Some (i + length xs)) None)
 first_of_more t i [] y = ap (λ n. cond (t y) (Some n) None) (sym (add-zero i))
-first_of_more t i (x ∷ xs) y = by_test (t x) where
-  by_test : (b : Bool) → cond b (Some i) (position_from t (i + 1) (xs ++ y ∷ [])) ≡ option_or (cond b (Some i) (position_from t (i + 1) xs)) (cond (t y) (Some (i + suc (length xs))) None)
-  by_test true = refl
-  by_test false =
-      let same : i + 1 + length xs ≡ i + suc (length xs) = omega arith in
-      first_of_more t (i + 1) xs y ∙ ap (λ n. option_or (position_from t (i + 1) xs) (cond (t y) (Some n) None)) same
+first_of_more t i (x ∷ xs) y =
+    let same : i + 1 + length xs ≡ i + suc (length xs) = omega arith in
+    first_or (t x) i (position_from t (i + 1) (xs ++ y ∷ [])) (position_from t (i + 1) xs) (cond (t y) (Some (i + suc (length xs))) None)
+    (first_of_more t (i + 1) xs y ∙ ap (λ n. option_or (position_from t (i + 1) xs) (cond (t y) (Some n) None)) same)
 
 number_from : (ports : List PortDeclaration) (name : List ℕ) → number_of ports name ≡ position_from (λ (p : PortDeclaration). bytes_eq p.name.text name) 0 ports
 number_from ports name = position_from-zero (λ (p : PortDeclaration). bytes_eq p.name.text name) ports
@@ -66,13 +68,15 @@ numbers_more ports i p old new within is are fresh updates name =
 
 -- ---- names that differ
 
+none_parts : (b : Bool) (i : ℕ) (rest : Option ℕ) → cond b (Some i) rest ≡ None → (b ≡ false) × (rest ≡ None)
+none_parts true i rest none = absurd (cc)
+none_parts false i rest none = (refl, none)
+
 none_named : (ports : List PortDeclaration) (i : ℕ) (name : List ℕ) → position_from (λ (p : PortDeclaration). bytes_eq p.name.text name) i ports ≡ None → list_any (bytes_eq name) (port_names ports) ≡ false
 none_named [] i name none = refl
-none_named (p ∷ ports) i name none = by_test (bytes_eq p.name.text name) refl none where
-  by_test : (b : Bool) → bytes_eq p.name.text name ≡ b → cond b (Some i) (position_from (λ (p : PortDeclaration). bytes_eq p.name.text name) (i + 1) ports) ≡ None → (bytes_eq name p.name.text || list_any (bytes_eq name) (port_names ports)) ≡ false
-  by_test true same clash = absurd (cc)
-  by_test false other rest =
-      ap (λ b. b || list_any (bytes_eq name) (port_names ports)) (nat_list_eq_equiv.symm name p.name.text ∙ other) ∙ none_named ports (i + 1) name rest
+none_named (p ∷ ports) i name none =
+    let parts = none_parts (bytes_eq p.name.text name) i (position_from (λ (p : PortDeclaration). bytes_eq p.name.text name) (i + 1) ports) none in
+    ap (λ b. b || list_any (bytes_eq name) (port_names ports)) (nat_list_eq_equiv.symm name p.name.text ∙ parts.0) ∙ none_named ports (i + 1) name parts.1
 
 -- one name more
 pub distinct_more : (ports : List PortDeclaration) (i : ℕ) (p : PortDeclaration) → i < length ports → p ≡ get_or ports i p → IsDistinct bytes_eq (port_names (take i ports)) → number_of (take i ports) p.name.text ≡ None → IsDistinct bytes_eq (port_names (take (i + 1) ports))
@@ -110,13 +114,26 @@ scoped_none numbers empty = record {
   distinct = tt;
 }
 
-pub scoped_more : (ports : List PortDeclaration) (i : ℕ) (p : PortDeclaration) (old new : BTreeMap (Bor (List ℕ)) ℕ) → i < length ports → p ≡ get_or ports i p → AreScoped (take i ports) old → number_in old p.name.text ≡ None → ((q : List ℕ) → number_in new q ≡ update bytes_eq (number_in old) p.name.text (Some i) q) → AreScoped (take (i + 1) ports) new
-scoped_more ports i p old new within is scoped absent updates =
+none_of : (o : Option ℕ) → is_some o ≡ false → o ≡ None
+none_of None missing = refl
+none_of (Some n) missing = absurd (cc)
+
+-- a port whose name is new to the map
+pub scoped_more : (ports : List PortDeclaration) (i : ℕ) (p : PortDeclaration) (key : List ℕ) (old new : BTreeMap (Bor (List ℕ)) ℕ) (earlier : Option ℕ) → i < length ports → p ≡ get_or ports i p → key ≡ p.name.text → AreScoped (take i ports) old → earlier ≡ number_in old key → is_some earlier ≡ false → ((q : List ℕ) → number_in new q ≡ update bytes_eq (number_in old) key (Some i) q) → AreScoped (take (i + 1) ports) new
+scoped_more ports i p key old new earlier within is named scoped was missing updates =
+    let absent : number_in old p.name.text ≡ None = ap (number_in old) (sym named) ∙ sym was ∙ none_of earlier missing in
     let fresh : number_of (take i ports) p.name.text ≡ None = sym (scoped.numbered p.name.text) ∙ absent in
     record {
-      numbered = numbers_more ports i p old new within is scoped.numbered fresh updates;
+      numbered = numbers_more ports i p old new within is scoped.numbered fresh (λ q. updates q ∙ ap (λ k. update bytes_eq (number_in old) k (Some i) q) named);
       distinct = distinct_more ports i p within is scoped.distinct fresh;
     }
 
-pub scoped_not : (ports : List PortDeclaration) (i : ℕ) (p : PortDeclaration) (j : ℕ) (old : BTreeMap (Bor (List ℕ)) ℕ) → i < length ports → p ≡ get_or ports i p → AreScoped (take i ports) old → number_in old p.name.text ≡ Some j → IsDistinct bytes_eq (port_names ports) → ⊥
-scoped_not ports i p j old within is scoped found = not_distinct ports i p j within is (sym (scoped.numbered p.name.text) ∙ found)
+some_of : (o : Option ℕ) → is_some o ≡ true → (n : ℕ) × (o ≡ Some n)
+some_of None there = absurd (cc)
+some_of (Some n) there = (n, refl)
+
+-- a port whose name the map has
+pub scoped_not : (ports : List PortDeclaration) (i : ℕ) (p : PortDeclaration) (key : List ℕ) (old : BTreeMap (Bor (List ℕ)) ℕ) (earlier : Option ℕ) → i < length ports → p ≡ get_or ports i p → key ≡ p.name.text → AreScoped (take i ports) old → earlier ≡ number_in old key → is_some earlier ≡ true → IsDistinct bytes_eq (port_names ports) → ⊥
+scoped_not ports i p key old earlier within is named scoped was there =
+    let found = some_of earlier there in
+    not_distinct ports i p found.0 within is (sym (scoped.numbered p.name.text) ∙ ap (number_in old) (sym named) ∙ sym was ∙ found.1)

@@ -116,8 +116,8 @@ bit_term : (ports : List PortDeclaration) (e : Expression) → AreDeclared ports
 bit_term ports (Single only) known = bit_operand ports only known
 bit_term ports (Pair first o second) known =
     bit_pair (port_widths ports) o (operand_term ports first) (operand_term ports second)
-    (bit_operand ports first (all_front _ (operand_names first) (operand_names second) known))
-    (bit_operand ports second (all_back _ (operand_names first) (operand_names second) known))
+    (bit_operand ports first (all_front (λ x. IsSome (number_of ports x)) (operand_names first) (operand_names second) known))
+    (bit_operand ports second (all_back (λ x. IsSome (number_of ports x)) (operand_names first) (operand_names second) known))
 
 whole_at : (ports : List PortDeclaration) (a : Assignment) (o : Option ℕ) → number_of ports a.target.text ≡ o → IsSome o → IsBit (port_widths ports) (term_of ports a.value) → IsWhole (port_widths ports) (driver_of ports a)
 whole_at ports a None is some bit = absurd (cc)
