@@ -11,3 +11,7 @@ pub mod StimulusLines
 pub mod BenchSteps
 pub mod StimulusBytes
 pub mod Played
+pub mod Naming
+pub mod Binding
+pub mod Plain
+pub mod Elaborated

@@ -16,3 +16,4 @@ pub mod CommandWords
 pub mod Loading
 pub mod Verdicts
 pub mod Playing
+pub mod Elaborating

@@ -4,6 +4,7 @@
 mod bench;
 mod command;
 mod law;
+mod elaboration;
 mod load;
 mod found;
 mod line;
