@@ -15,3 +15,4 @@ pub mod Naming
 pub mod Binding
 pub mod Plain
 pub mod Elaborated
+pub mod Begun

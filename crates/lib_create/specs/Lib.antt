@@ -17,3 +17,5 @@ pub mod Loading
 pub mod Verdicts
 pub mod Playing
 pub mod Elaborating
+pub mod Compiling
+pub mod Telling

@@ -6,6 +6,7 @@ use Rattle.io_edge.specs.File.{Files}
 use Rattle.sv_base.specs.Kind.{text_of}
 use Rattle.sv_base.specs.declared.kind.Kind.TheVariants.{Unsupported}
 use Rattle.sv_base.specs.declared.refusal.Refusal.{Refusal}
+use Rattle.net_ir.specs.declared.design.Spec.{Spec}
 use Rattle.net_ir.specs.Trace.{IsTrace}
 use Rattle.lib_create.specs.declared.tree.Module.{Module}
 use Rattle.lib_create.specs.Command.{Sim, Misuse, Wrong, TooFew, meaning_of}
@@ -80,19 +81,19 @@ abbrev pub verdict_of_bad : Option BadLine → Verdict
 verdict_of_bad None = Done
 verdict_of_bad (Some bad) = Bad bad
 
-abbrev pub Plays : Module → Script → Verdict → List ℕ → Type 0
-Plays m script verdict trace = (verdict ≡ verdict_of_bad script.bad) × IsTrace (design_of m) script.steps trace
+abbrev pub Plays : Spec → Script → Verdict → List ℕ → Type 0
+Plays spec script verdict trace = (verdict ≡ verdict_of_bad script.bad) × IsTrace spec script.steps trace
 
 -- the stimulus is not there: the trace has no step but step 0
-abbrev pub EndsWithStimulus : Module → Option (List ℕ) → Verdict → List ℕ → Type 0
-EndsWithStimulus m None verdict trace = (verdict ≡ StimulusAbsent) × IsTrace (design_of m) [] trace
-EndsWithStimulus m (Some bytes) verdict trace = Plays m (script_of (design_of m).vars step_limit bytes) verdict trace
+abbrev pub EndsWithStimulus : Spec → Option (List ℕ) → Verdict → List ℕ → Type 0
+EndsWithStimulus spec None verdict trace = (verdict ≡ StimulusAbsent) × IsTrace spec [] trace
+EndsWithStimulus spec (Some bytes) verdict trace = Plays spec (script_of spec.vars step_limit bytes) verdict trace
 
 -- the source is one module that is a plain design, or it is refused
 abbrev pub EndsWithSource : Files → Sim → Option (List ℕ) → Verdict → List ℕ → Type 0
 EndsWithSource files sim None verdict trace = (verdict ≡ SourceAbsent sim.file) × (trace ≡ [])
 EndsWithSource files sim (Some bytes) verdict trace =
-    ((m : Module) × IsSource sim.top bytes m × EndsWithStimulus m (get files sim.stimulus) verdict trace)
+    ((m : Module) × IsSource sim.top bytes m × EndsWithStimulus (design_of m) (get files sim.stimulus) verdict trace)
     ⊎ (((m : Module) → IsSource sim.top bytes m → ⊥) × (verdict ≡ SourceRefused sim.file not_plain) × (trace ≡ []))
 
 -- the words are the command's, or they are refused
