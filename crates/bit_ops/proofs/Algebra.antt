@@ -1,6 +1,6 @@
 -- How the operations undo and repeat one another.
-use Rattle.std.proofs.Common.{◌≡◌, ℕ, ◌+◌, ◌-◌, ◌*◌, ◌/◌, ◌%◌, ◌^◌, ◌<◌, ◌≤◌, ℤ, pos, negsuc, ltb, cond, inl, inr, refl, ap, ap₂, ◌∙◌, sym, subst, arith}
-use Rattle.std.specs.Prelude.{int_lt}
+use Rattle.std.proofs.Common.{◌≡◌, ℕ, ◌+◌, ◌-◌, ◌*◌, ◌/◌, ◌%◌, ◌^◌, ◌<◌, ◌≤◌, ℤ, pos, negsuc, neg_ℤ, ltb, cond, inl, inr, refl, ap, ap₂, ◌∙◌, sym, subst, arith}
+use Rattle.std.specs.Prelude.{int_lt, ◌≤ℤ◌, ◌<ℤ◌}
 use Rattle.std.specs.Int.{bit_at}
 use Rattle.std.proofs.Math.Nat.{mod-eq_of_lt, div-eq_of_lt, add-mul, mul_assoc, div-one, mod-one, two-pow-succ}
 use Rattle.std.proofs.lemmas.Nat.{pow_pos, pow-add, shr-shr, mod_below, mod-pow-add}
@@ -9,7 +9,7 @@ use Rattle.std.proofs.lemmas.Int.{ints}
 use Rattle.std.proofs.lemmas.Bool.{lt-ltb, le-ltb, cond-true, cond-false, cases_lt}
 use Rattle.bit_ops.specs.Meaning.{signed_of, word_of, zext_of, sext_of, slice_of, concat_of, insert_of, shr_u_of, lt_u_of, lt_s_of}
 use Rattle.bit_ops.proofs.Words.{wider, pow_le, three_parts, regroup, joined_fits}
-use Rattle.bit_ops.proofs.Signed.{signed_low, signed_high, signed_negative, word_of_pos, word_of_difference, extended_low, extended_high}
+use Rattle.bit_ops.proofs.Signed.{signed_low, signed_high, signed_negative, word_of_pos, word_of_difference, cut_whole, extended_low, extended_high}
 use Rattle.bit_ops.proofs.Positions.{bit_at-slice, bit_at-concat_low, bit_at-concat_high, bit_at-insert_below, bit_at-insert_inside, bit_at-insert_above, bit_at-sext_low, slice_fits}
 
 -- ---- signed numbers and words
@@ -41,7 +41,34 @@ signed_extended n w a one h f =
           ∙ sym (signed_high n a high)
     ]
 
+-- the signed numbers of w bits are those from -2 ^ (w - 1) up to 2 ^ (w - 1), without the latter
+pub signed_within : (w a : ℕ) → 1 ≤ w → a < 2 ^ w
+    → (neg_ℤ (pos (2 ^ (w - 1))) ≤ℤ signed_of w a) × (signed_of w a <ℤ pos (2 ^ (w - 1)))
+signed_within w a one f =
+    let wide : 2 ^ w ≡ 2 ^ (w - 1) + 2 ^ (w - 1) = ap (λ j. 2 ^ j) (omega arith) ∙ two-pow-succ (w - 1) in
+    elim (cases_lt a (2 ^ (w - 1))) as (λ _. (neg_ℤ (pos (2 ^ (w - 1))) ≤ℤ signed_of w a) × (signed_of w a <ℤ pos (2 ^ (w - 1)))) [
+      | inl low ↦ (let e : signed_of w a ≡ pos a = signed_low w a low in (rw e (omega (arith, ints)), rw e (omega (arith, ints))))
+      | inr high ↦
+          (let e : signed_of w a ≡ negsuc (2 ^ w - 1 - a) = signed_negative w a high f in
+          (rw e (omega (arith, ints)), rw e (omega (arith, ints))))
+    ]
+
+pub signed_word : (w : ℕ) (z : ℤ) → 1 ≤ w → neg_ℤ (pos (2 ^ (w - 1))) ≤ℤ z → z <ℤ pos (2 ^ (w - 1))
+    → signed_of w (word_of w z) ≡ z
+signed_word w (pos n) one h k =
+    let below : n < 2 ^ (w - 1) = omega (arith, ints) in
+    ap (signed_of w) (word_of_pos w n (wider (w - 1) w n (omega arith) below)) ∙ signed_low w n below
+signed_word w (negsuc n) one h k =
+    let wide : 2 ^ w ≡ 2 ^ (w - 1) + 2 ^ (w - 1) = ap (λ j. 2 ^ j) (omega arith) ∙ two-pow-succ (w - 1) in
+    let below : n < 2 ^ (w - 1) = omega (arith, ints) in
+    let whole : n % 2 ^ w ≡ n = mod-eq_of_lt (omega arith) in
+    ap (λ j. signed_of w (2 ^ w - 1 - j)) whole
+    ∙ signed_negative w (2 ^ w - 1 - n) (omega arith) (omega (arith, pow_pos w)) ∙ ap negsuc (omega arith)
+
 -- ---- extension and cutting
+
+pub slice_lowest : (n a : ℕ) → slice_of 0 n a ≡ a % 2 ^ n
+slice_lowest n a = ap (λ k. k % 2 ^ n) (div-one a)
 
 pub slice-zext : (n a : ℕ) → a < 2 ^ n → slice_of 0 n (zext_of a) ≡ a
 slice-zext n a f = ap (λ k. k % 2 ^ n) (div-one a) ∙ mod-eq_of_lt f
@@ -156,6 +183,62 @@ insert_whole n a b f =
     let high : a / 2 ^ (0 + n) ≡ 0 = div-eq_of_lt (subst (λ (k : ℕ). a < 2 ^ k) (omega arith) f) in
     let gone : a / 2 ^ (0 + n) * 2 ^ (0 + n) ≡ 0 = ap (λ k. k * 2 ^ (0 + n)) high ∙ omega arith in
     omega (arith, mod-one a)
+
+pub insert-insert_apart : (lo n hi m a b c : ℕ) → b < 2 ^ n → c < 2 ^ m → lo + n ≤ hi
+    → insert_of lo n (insert_of hi m a c) b ≡ insert_of hi m (insert_of lo n a b) c
+insert-insert_apart lo n hi m a b c f g h =
+    same_from_bits (insert_of lo n (insert_of hi m a c) b) (insert_of hi m (insert_of lo n a b) c) same
+  where
+    below : (i : ℕ) → i < lo → bit_at (insert_of lo n (insert_of hi m a c) b) i ≡ bit_at (insert_of hi m (insert_of lo n a b) c) i
+    below i k =
+        bit_at-insert_below lo n (insert_of hi m a c) b i k ∙ bit_at-insert_below hi m a c i (omega arith)
+        ∙ sym (bit_at-insert_below hi m (insert_of lo n a b) c i (omega arith) ∙ bit_at-insert_below lo n a b i k)
+
+    first : (i : ℕ) → lo ≤ i → i < lo + n → bit_at (insert_of lo n (insert_of hi m a c) b) i ≡ bit_at (insert_of hi m (insert_of lo n a b) c) i
+    first i k l =
+        bit_at-insert_inside lo n (insert_of hi m a c) b i k l
+        ∙ sym (bit_at-insert_below hi m (insert_of lo n a b) c i (omega arith) ∙ bit_at-insert_inside lo n a b i k l)
+
+    between : (i : ℕ) → lo + n ≤ i → i < hi → bit_at (insert_of lo n (insert_of hi m a c) b) i ≡ bit_at (insert_of hi m (insert_of lo n a b) c) i
+    between i k l =
+        bit_at-insert_above lo n (insert_of hi m a c) b i f k ∙ bit_at-insert_below hi m a c i l
+        ∙ sym (bit_at-insert_below hi m (insert_of lo n a b) c i l ∙ bit_at-insert_above lo n a b i f k)
+
+    second : (i : ℕ) → hi ≤ i → i < hi + m → bit_at (insert_of lo n (insert_of hi m a c) b) i ≡ bit_at (insert_of hi m (insert_of lo n a b) c) i
+    second i k l =
+        bit_at-insert_above lo n (insert_of hi m a c) b i f (omega arith) ∙ bit_at-insert_inside hi m a c i k l
+        ∙ sym (bit_at-insert_inside hi m (insert_of lo n a b) c i k l)
+
+    above : (i : ℕ) → hi + m ≤ i → bit_at (insert_of lo n (insert_of hi m a c) b) i ≡ bit_at (insert_of hi m (insert_of lo n a b) c) i
+    above i k =
+        bit_at-insert_above lo n (insert_of hi m a c) b i f (omega arith) ∙ bit_at-insert_above hi m a c i g k
+        ∙ sym (bit_at-insert_above hi m (insert_of lo n a b) c i g k ∙ bit_at-insert_above lo n a b i f (omega arith))
+
+    same : (i : ℕ) → bit_at (insert_of lo n (insert_of hi m a c) b) i ≡ bit_at (insert_of hi m (insert_of lo n a b) c) i
+    same i =
+        elim (cases_lt i lo) as (λ _. bit_at (insert_of lo n (insert_of hi m a c) b) i ≡ bit_at (insert_of hi m (insert_of lo n a b) c) i) [
+          | inl k ↦ below i k
+          | inr k ↦
+              elim (cases_lt i (lo + n)) as (λ _. bit_at (insert_of lo n (insert_of hi m a c) b) i ≡ bit_at (insert_of hi m (insert_of lo n a b) c) i) [
+                | inl l ↦ first i k l
+                | inr l ↦
+                    elim (cases_lt i hi) as (λ _. bit_at (insert_of lo n (insert_of hi m a c) b) i ≡ bit_at (insert_of hi m (insert_of lo n a b) c) i) [
+                      | inl j ↦ between i l j
+                      | inr j ↦
+                          elim (cases_lt i (hi + m)) as (λ _. bit_at (insert_of lo n (insert_of hi m a c) b) i ≡ bit_at (insert_of hi m (insert_of lo n a b) c) i) [
+                            | inl o ↦ second i j o
+                            | inr o ↦ above i o
+                          ]
+                    ]
+              ]
+        ]
+
+-- the bits above, the inserted ones and the bits below, joined
+pub insert-concat : (lo n w a b : ℕ) → lo + n ≤ w → a < 2 ^ w
+    → insert_of lo n a b ≡ concat_of (lo + n) (slice_of (lo + n) (w - (lo + n)) a) (concat_of lo b (slice_of 0 lo a))
+insert-concat lo n w a b h f =
+    regroup lo n a b
+    ∙ ap₂ (λ x y. x * 2 ^ (lo + n) + (b * 2 ^ lo + y)) (sym (cut_whole w (lo + n) a h f)) (sym (slice_lowest lo a))
 
 -- ---- shift then cut
 

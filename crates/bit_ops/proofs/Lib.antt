@@ -3,3 +3,4 @@ pub mod Signed
 pub mod Positions
 pub mod Algebra
 pub mod Fits
+pub mod Worked

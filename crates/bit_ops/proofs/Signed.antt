@@ -137,7 +137,7 @@ complement_shifted w k a h f =
     let apart : 2 ^ w - 1 - a ≡ d * 2 ^ k + (2 ^ k - 1 - a % 2 ^ k) = omega (arith, shr_split a k) in
     ap (λ j. j / 2 ^ k) apart ∙ div-mul-add d (2 ^ k) (2 ^ k - 1 - a % 2 ^ k) (omega (arith, pow_pos k))
 
-cut_whole : (w k a : ℕ) → k ≤ w → a < 2 ^ w → slice_of k (w - k) a ≡ a / 2 ^ k
+pub cut_whole : (w k a : ℕ) → k ≤ w → a < 2 ^ w → slice_of k (w - k) a ≡ a / 2 ^ k
 cut_whole w k a h f = mod-eq_of_lt (shr_below a (w - k) k (subst (λ (j : ℕ). a < 2 ^ j) (omega arith) f))
 
 -- the bits from k on, as a signed number: the signed number divided by 2 ^ k, rounded down

@@ -2,7 +2,7 @@
 //!
 //! Each is the contract of a function with an empty body. A caller has the laws by a call, which does nothing.
 
-ghost use Rattle.std.specs.Prelude.{◌≡◌, ℕ, ◌+◌, ◌-◌, ◌%◌, ◌^◌, ◌<◌, ◌≤◌, List, min, max};
+ghost use Rattle.std.specs.Prelude.{◌≡◌, ℕ, ◌+◌, ◌-◌, ◌%◌, ◌^◌, ◌<◌, ◌≤◌, List, min, max, ℤ, pos, neg_ℤ, ◌≤ℤ◌, ◌<ℤ◌};
 ghost use Rattle.std.specs.Int.{bit_at};
 ghost use Rattle.bit_ops.specs.Meaning.{signed_of, word_of, zext_of, sext_of, slice_of, concat_of, insert_of, not_of, and_of, or_of, xor_of, shl_of, shr_u_of, shr_s_of, lt_u_of, lt_s_of, mux_of};
 ghost use Rattle.bit_ops.specs.Width.{WidthsFit};
@@ -20,14 +20,17 @@ pub fn value_fits()
     ensures { (op : Op) (w lo : ℕ) (operands : List (ℕ × ℕ)) → WidthsFit op w lo (widths_of operands) → AreWords operands → value_of op w lo operands < 2 ^ w }
 {}
 
-/// A word and the signed number that it stands for.
+/// A word and the signed number that it stands for, each of which gives the other.
 pub fn signed_numbers()
+    ensures within { (w a : ℕ) → 1 ≤ w → a < 2 ^ w → (neg_ℤ (pos (2 ^ (w - 1))) ≤ℤ signed_of w a) × (signed_of w a <ℤ pos (2 ^ (w - 1))) }
+    ensures number { (w : ℕ) (z : ℤ) → 1 ≤ w → neg_ℤ (pos (2 ^ (w - 1))) ≤ℤ z → z <ℤ pos (2 ^ (w - 1)) → signed_of w (word_of w z) ≡ z }
     ensures word { (w a : ℕ) → a < 2 ^ w → word_of w (signed_of w a) ≡ a }
     ensures extended { (n w a : ℕ) → 1 ≤ n → n ≤ w → a < 2 ^ n → signed_of w (sext_of n w a) ≡ signed_of n a }
 {}
 
 /// Extension and cutting: cut to the width that it had, an extended word is as it was.
 pub fn extension_then_cut()
+    ensures cut { (n a : ℕ) → slice_of 0 n a ≡ a % 2 ^ n }
     ensures zext_then_cut { (n a : ℕ) → a < 2 ^ n → slice_of 0 n (zext_of a) ≡ a }
     ensures sext_then_cut { (n w a : ℕ) → n ≤ w → a < 2 ^ n → slice_of 0 n (sext_of n w a) ≡ a }
     ensures sext_twice { (n m w a : ℕ) → 1 ≤ n → n ≤ m → m ≤ w → a < 2 ^ n → sext_of m w (sext_of n m a) ≡ sext_of n w a }
@@ -57,7 +60,11 @@ pub fn insertions()
     ensures slice_above { (from w lo n a b : ℕ) → b < 2 ^ n → lo + n ≤ from → slice_of from w (insert_of lo n a b) ≡ slice_of from w a }
     ensures of_slice { (lo n a : ℕ) → insert_of lo n a (slice_of lo n a) ≡ a }
     ensures twice { (lo n a b c : ℕ) → b < 2 ^ n → c < 2 ^ n → insert_of lo n (insert_of lo n a b) c ≡ insert_of lo n a c }
+    ensures apart { (lo n hi m a b c : ℕ) → b < 2 ^ n → c < 2 ^ m → lo + n ≤ hi → insert_of lo n (insert_of hi m a c) b ≡ insert_of hi m (insert_of lo n a b) c }
     ensures whole { (n a b : ℕ) → a < 2 ^ n → insert_of 0 n a b ≡ b }
+
+    // The bits above, the inserted ones and the bits below, joined.
+    ensures as_concat { (lo n w a b : ℕ) → lo + n ≤ w → a < 2 ^ w → insert_of lo n a b ≡ concat_of (lo + n) (slice_of (lo + n) (w - (lo + n)) a) (concat_of lo b (slice_of 0 lo a)) }
 {}
 
 /// The choice at each value of its condition.

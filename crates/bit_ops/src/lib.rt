@@ -1,17 +1,17 @@
 //! The operations on values of a fixed width: each call answers its row of the table of operations.
 #![tactic(auto)]
 
-pub mod arithmetic;
-pub mod bitwise;
-pub mod choice;
-pub mod compare;
-pub mod extend;
+mod arithmetic;
+mod bitwise;
+mod choice;
+mod compare;
+mod extend;
 pub mod laws;
-pub mod operation;
-pub mod part;
-pub mod reduce;
-pub mod shift;
-pub mod value;
+mod operation;
+mod part;
+mod reduce;
+mod shift;
+mod value;
 
 pub use arithmetic::{add, div_s, div_u, mod_s, mod_u, mul, neg, sub};
 pub use bitwise::{bit_and, bit_not, bit_or, bit_xor};

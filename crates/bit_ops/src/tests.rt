@@ -513,6 +513,17 @@ fn value(rt: &impl Abort, width: u32, word: Word) -> Bits
 }
 
 #[test]
+fn constructors(rt: HostRuntime) {
+    assert_eq!(rt; Bits::new(8, 0x80), value(&rt, 8, 0x80));
+    assert_eq!(rt; Bits::zero(64), value(&rt, 64, 0));
+    assert_eq!(rt; Bits::truncated(4, 0xab), value(&rt, 4, 0xb));
+    assert_eq!(rt; Bits::flag(true), value(&rt, 1, 1));
+    assert_eq!(rt; Bits::flag(false), value(&rt, 1, 0));
+    assert!(rt; Bits::new(8, 0x80).is_negative());
+    assert!(rt; !Bits::new(8, 0x7f).is_negative());
+}
+
+#[test]
 fn bitwise_operations(rt: HostRuntime) {
     for (width, a, b, not, and, or, xor) in BITWISE {
         let (a, b) = (value(&rt, width, a), value(&rt, width, b));

@@ -2,3 +2,4 @@ pub mod StimulusWords
 pub mod StimulusSettings
 pub mod StimulusLines
 pub mod StimulusBytes
+pub mod TraceText

@@ -9,7 +9,7 @@ use Rattle.std.proofs.lemmas.List.Folds.{list_any-append}
 use Rattle.net_ir.specs.declared.design.Role.{Role}
 use Rattle.net_ir.specs.declared.design.Role.TheVariants.{Input, Output}
 use Rattle.net_ir.specs.declared.design.Var.{Var}
-use Rattle.net_ir.specs.Plain.{HasVars}
+use Rattle.net_ir.specs.Plain.{HaveInitialValues}
 use Rattle.bit_ops.specs.declared.value.Bits.{Bits}
 use Rattle.std.proofs.lemmas.Option.{get_or_from_slice_get}
 use Rattle.net_ir.specs.Run.{Setting as Assigned}
@@ -158,9 +158,9 @@ all_at P (y ∷ xs) zero x all at = subst P (let same : y ≡ x = cc in same) al
 all_at P (y ∷ xs) (suc i) x all at = all_at P xs i x all.1 at
 
 -- an input has its initial value's width
-pub width_at : (vars : List Var) (name : List ℕ) (i : ℕ) (d : Var) → HasVars vars → (found : IsInputOf vars name i) → (get_or vars i d).init.width ≡ found.var.width
+pub width_at : (vars : List Var) (name : List ℕ) (i : ℕ) (d : Var) → HaveInitialValues vars → (found : IsInputOf vars name i) → (get_or vars i d).init.width ≡ found.var.width
 width_at vars name i d has found =
-    ap (λ (v : Var). v.init.width) (get_or_from_slice_get vars i found.var d found.at) ∙ all_at (λ v. v.init.width ≡ v.width) vars i found.var has.each found.at
+    ap (λ (v : Var). v.init.width) (get_or_from_slice_get vars i found.var d found.at) ∙ all_at (λ v. v.init.width ≡ v.width) vars i found.var has found.at
 
 pub set_twice : (vars : List Var) (set : List Setting) (word name text : List ℕ) (i : ℕ) → Some (name, text) ≡ named_part (parts_of word) → IsInputOf vars name i → list_any (λ s. s.var == i) set ≡ true → Err (record { reason = SetTwice; word = name }) ≡ setting_of vars (inputs_set set) word
 set_twice vars set word name text i parts found twice =
@@ -180,6 +180,6 @@ set_once vars set word name text i width value parts found once width_is value_i
     ∙ ap (λ (w : ℕ). valued i text (word_in w text)) (sym width_is)
     ∙ ap (valued i text) (sym value_is))
 
-pub settable_at : (vars : List Var) (name : List ℕ) (i : ℕ) (d : Var) (value : Bits) → HasVars vars → IsInputOf vars name i → i < length vars → value.width ≡ (get_or vars i d).init.width → IsSettable vars (record { var = i; value = value })
+pub settable_at : (vars : List Var) (name : List ℕ) (i : ℕ) (d : Var) (value : Bits) → HaveInitialValues vars → IsInputOf vars name i → i < length vars → value.width ≡ (get_or vars i d).init.width → IsSettable vars (record { var = i; value = value })
 settable_at vars name i d value has found there width =
     record { there = there; var = found.var; at = found.at; role = found.role; width = width ∙ width_at vars name i d has found }

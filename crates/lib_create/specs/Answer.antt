@@ -28,11 +28,13 @@ pub record Answered (files : Files) (words : List (List ℕ)) (status : ℕ) (ou
 abbrev pub CutShort : Files → List (List ℕ) → Option (List ℕ) → Option (List ℕ) → Type 0
 CutShort files words out_before out_after = (outcome : Outcome) → IsOutcome files words outcome → AddedFront out_before out_after outcome.out
 
--- of the message that was due, a front was added: that of the outcome, or that of a fault
-abbrev pub CutMessage : Files → List (List ℕ) → Option (List ℕ) → Option (List ℕ) → Type 0
-CutMessage files words before after =
+-- of the message that was due a front was added: that of the outcome, that of a write to standard output or to the folder
+-- which failed, that of a read which failed, or that of want of memory
+abbrev pub CutMessage : Files → List (List ℕ) → Type 0 → Type 0 → Option (List ℕ) → Option (List ℕ) → Type 0
+CutMessage files words write_failed read_failed before after =
     (outcome : Outcome) → IsOutcome files words outcome →
-    (AddedFront before after outcome.err ⊎ AddedFront before after write_fault) ⊎ (AddedFront before after read_fault ⊎ AddedFront before after no_memory)
+    (AddedFront before after outcome.err ⊎ (write_failed × AddedFront before after write_fault))
+    ⊎ ((read_failed × AddedFront before after read_fault) ⊎ AddedFront before after no_memory)
 
 -- each outcome was given, or memory ran out
 abbrev pub Completed : Files → List (List ℕ) → ℕ → Option (List ℕ) → Option (List ℕ) → Option (List ℕ) → Option (List ℕ) → Type 0

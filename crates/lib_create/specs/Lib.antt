@@ -10,3 +10,6 @@ pub mod StimulusSteps
 pub mod Order
 pub mod Outcome
 pub mod Answer
+pub mod CommandWords
+pub mod Loading
+pub mod Verdicts

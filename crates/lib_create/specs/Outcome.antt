@@ -1,9 +1,11 @@
 -- What the program owes for words and files: a status, what it writes on standard output, and what on standard error.
-use Rattle.std.specs.Prelude.{◌≡◌, ℕ, ◌≤◌, List, [], ◌∷◌, ◌++◌, length, codes, Option, None, Some, Result, Ok, Err, ◌⊎◌}
+use Rattle.std.specs.Prelude.{◌≡◌, ℕ, zero, suc, ◌≤◌, List, [], ◌∷◌, ◌++◌, length, codes, Option, None, Some, Result, Ok, Err, ◌⊎◌}
 use Rattle.std.specs.Fmt.{decimal}
 use Rattle.std.specs.FinMap.{get}
 use Rattle.io_edge.specs.File.{Files}
-use Rattle.net_ir.specs.Run.{Step}
+use Rattle.sv_base.specs.Kind.{text_of}
+use Rattle.sv_base.specs.declared.kind.Kind.TheVariants.{Unsupported}
+use Rattle.sv_base.specs.declared.refusal.Refusal.{Refusal}
 use Rattle.net_ir.specs.Trace.{IsTrace}
 use Rattle.lib_create.specs.declared.tree.Module.{Module}
 use Rattle.lib_create.specs.Command.{Sim, Misuse, Wrong, TooFew, meaning_of}
@@ -16,7 +18,7 @@ pub data Verdict : Type 0 where
   Done : Verdict
   Misused : (misuse : Misuse) → Verdict
   SourceAbsent : (file : List ℕ) → Verdict
-  NotPlain : Verdict
+  SourceRefused : (file : List ℕ) (refusal : Refusal) → Verdict
   StimulusAbsent : Verdict
   Bad : (bad : BadLine) → Verdict
 
@@ -25,7 +27,7 @@ abbrev pub status_of : Verdict → ℕ
 status_of Done = 0
 status_of (Misused misuse) = 2
 status_of (SourceAbsent file) = 3
-status_of NotPlain = 3
+status_of (SourceRefused file refusal) = 3
 status_of StimulusAbsent = 5
 status_of (Bad bad) = 5
 
@@ -33,12 +35,26 @@ abbrev pub misuse_text : Misuse → List ℕ
 misuse_text (Wrong word) = word
 misuse_text TooFew = codes "too few words"
 
+-- the file of a place as a message names it, where the words name this source file: 0 means that there is none
+abbrev pub file_text : List ℕ → ℕ → List ℕ
+file_text file zero = codes "-"
+file_text file (suc n) = file
+
+-- a name behind a blank, and nothing where there is none
+abbrev pub name_text : List ℕ → List ℕ
+name_text [] = []
+name_text (b ∷ bytes) = 32 ∷ b ∷ bytes
+
+-- FILE:LINE: KIND NAME
+abbrev pub refusal_text : List ℕ → Refusal → List ℕ
+refusal_text file refusal = file_text file refusal.place.file ++ 58 ∷ decimal refusal.place.line ++ codes ": " ++ text_of refusal.kind ++ name_text refusal.name
+
 -- its message, one line or nothing
 abbrev pub message_of : Verdict → List ℕ
 message_of Done = []
 message_of (Misused misuse) = codes "usage: " ++ misuse_text misuse ++ 10 ∷ []
 message_of (SourceAbsent file) = codes "absent " ++ file ++ 10 ∷ []
-message_of NotPlain = codes "-:0: Unsupported plain" ++ 10 ∷ []
+message_of (SourceRefused file refusal) = refusal_text file refusal ++ 10 ∷ []
 message_of StimulusAbsent = codes "stimulus 1: absent" ++ 10 ∷ []
 message_of (Bad bad) = codes "stimulus " ++ decimal bad.line ++ codes ": " ++ reason_text bad.reason bad.word ++ 10 ∷ []
 
@@ -48,6 +64,10 @@ source_limit = 1048576
 
 abbrev pub step_limit : ℕ
 step_limit = 16777215
+
+-- the refusal of a source that is no plain design of the first grammar
+abbrev pub not_plain : Refusal
+not_plain = record { kind = Unsupported; place = record { file = 0; line = 0 }; name = codes "plain" }
 
 -- the bytes of the source spell a module that is a plain design with this top
 pub record IsSource (top bytes : List ℕ) (m : Module) : Type 0 where
@@ -73,7 +93,7 @@ abbrev pub EndsWithSource : Files → Sim → Option (List ℕ) → Verdict → 
 EndsWithSource files sim None verdict trace = (verdict ≡ SourceAbsent sim.file) × (trace ≡ [])
 EndsWithSource files sim (Some bytes) verdict trace =
     ((m : Module) × IsSource sim.top bytes m × EndsWithStimulus m (get files sim.stimulus) verdict trace)
-    ⊎ (((m : Module) → IsSource sim.top bytes m → ⊥) × (verdict ≡ NotPlain) × (trace ≡ []))
+    ⊎ (((m : Module) → IsSource sim.top bytes m → ⊥) × (verdict ≡ SourceRefused sim.file not_plain) × (trace ≡ []))
 
 -- the words are the command's, or they are refused
 abbrev pub EndsWithWords : Files → Result Sim Misuse → Verdict → List ℕ → Type 0

@@ -28,6 +28,6 @@ refused_words = codes "inout" ∷ codes "tri" ∷ codes "tri0" ∷ codes "tri1" 
 abbrev pub is_reserved : List ℕ → Bool
 is_reserved word = list_any (bytes_eq word) used_words || list_any (bytes_eq word) refused_words
 
--- a name that may be given to a module, a port or a net, by its form and its length
+-- a name by its form that no word of the language is; its length is not asked
 abbrev pub is_free_name : List ℕ → Bool
 is_free_name word = is_name word && not (is_reserved word)

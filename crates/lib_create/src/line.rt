@@ -2,7 +2,7 @@
 
 ghost use Rattle.std.specs.Prelude.{◌≡◌, [], length, not, IfOk, IsTrue};
 ghost use Rattle.std.specs.List.{AllByRecursion};
-ghost use Rattle.net_ir.specs.Plain.{HasVars};
+ghost use Rattle.net_ir.specs.Plain.{HaveInitialValues};
 ghost use Rattle.lib_create.specs.Stimulus.{without_cr, words_of, content_of, settings_of, meaning_of_settings, meaning_of_words, is_comment};
 ghost use Rattle.lib_create.specs.StimulusReading.{IsSettable, meaning_seen};
 
@@ -51,7 +51,7 @@ fn read_settings<'a>(
     text: &'a [u8],
     settings: &mut Vec<Setting>,
 ) -> Result<Meaning<'a>, AllocError>
-    requires { HasVars vars.now }
+    requires { HaveInitialValues vars.now }
     ensures gives { IfOk result (λ meaning. meaning_seen settings.new.items meaning ≡ meaning_of_settings (settings_of vars.now [] (words_of text.now))) }
     ensures settable { AllByRecursion (IsSettable vars.now) settings.new.items }
 {
@@ -83,7 +83,7 @@ pub fn read_line<'a>(
     ended: bool,
     settings: &mut Vec<Setting>,
 ) -> Result<Meaning<'a>, AllocError>
-    requires { HasVars vars.now }
+    requires { HaveInitialValues vars.now }
     ensures gives { IfOk result (λ meaning. meaning_seen settings.new.items meaning ≡ meaning_of_words vars.now (words_of (content_of (record { text = line.now; ended = ended })))) }
     ensures settable { IfOk result (λ meaning. meaning ≡ Meaning.Stepped → AllByRecursion (IsSettable vars.now) settings.new.items) }
 {

@@ -1,8 +1,10 @@
 //! Compiles a synthesizable subset of SystemVerilog and simulates it in cycles with two-valued bits.
 #![tactic(auto)]
 
+mod command;
 mod found;
 mod line;
+mod load;
 mod order;
 mod reason;
 mod setting;
@@ -12,7 +14,9 @@ mod step;
 mod stimulus_tests;
 mod stop;
 mod token;
+mod trace;
 mod tree;
+mod verdict;
 mod words;
 
 fn main() {}

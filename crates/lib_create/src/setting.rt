@@ -5,7 +5,7 @@ ghost use Rattle.std.specs.List.{list_any, position};
 ghost use Rattle.std.specs.Option.{option_map};
 ghost use Rattle.std.specs.Str.{bytes_eq};
 ghost use Rattle.bit_ops.specs.Width.{IsWidth};
-ghost use Rattle.net_ir.specs.Plain.{HasVars};
+ghost use Rattle.net_ir.specs.Plain.{HaveInitialValues};
 ghost use Rattle.lib_create.specs.Spelling.{is_name};
 ghost use Rattle.lib_create.specs.Stimulus.{digit_of, number_from, word_in, parts_of, named_part, is_input, input_from, setting_of};
 ghost use Rattle.lib_create.specs.StimulusReading.{IsInputOf, IsSettable, inputs_set, setting_result};
@@ -141,7 +141,7 @@ pub fn read_setting<'a>(
     set: &[Setting],
     word: &'a [u8],
 ) -> Result<Setting, BadWord<'a>>
-    requires { HasVars vars.now }
+    requires { HaveInitialValues vars.now }
     ensures gives { setting_result result ≡ setting_of vars.now (inputs_set set.now) word.now }
     ensures settable { IfOk result (IsSettable vars.now) }
 {

@@ -1,6 +1,6 @@
 //! Names, and the words that no name may be.
 
-ghost use Rattle.std.specs.Prelude.{◌≡◌, ◌&&◌};
+ghost use Rattle.std.specs.Prelude.{◌≡◌};
 ghost use Rattle.std.specs.List.{list_all, list_any};
 ghost use Rattle.std.specs.Str.{bytes_eq};
 ghost use Rattle.lib_create.specs.Spelling.{begins_name, continues_name, is_name, is_reserved, is_free_name, used_words, refused_words};
@@ -125,13 +125,15 @@ const REFUSED_WORDS: [&str; 83] = [
     "disable",
 ];
 
-fn begins_name(byte: u8) -> bool
+/// Whether a name may begin with the byte.
+pub fn begins_name(byte: u8) -> bool
     ensures { result ≡ begins_name byte }
 {
     matches!(byte, b'A'..=b'Z' | b'a'..=b'z' | b'_')
 }
 
-fn continues_name(byte: u8) -> bool
+/// Whether the byte may stand inside a name.
+pub fn continues_name(byte: u8) -> bool
     ensures { result ≡ continues_name byte }
 {
     begins_name(byte) || matches!(byte, b'0'..=b'9' | b'$')

@@ -53,7 +53,7 @@ impl StepReader {
     ghost use Rattle.std.specs.Prelude.{◌≡◌, ℕ, ◌+◌, ◌<◌, ◌≤◌, List, [], length, IfOk, IfErr, IfNone, Some};
     ghost use Rattle.std.specs.List.{AllByRecursion};
     ghost use Rattle.net_ir.specs.declared.design.Var.{Var};
-    ghost use Rattle.net_ir.specs.Plain.{HasVars};
+    ghost use Rattle.net_ir.specs.Plain.{HaveInitialValues};
     ghost use Rattle.lib_create.specs.Stimulus.{script_of, span};
     ghost use Rattle.lib_create.specs.StimulusReading.{IsSettable};
     ghost use Rattle.lib_create.specs.StimulusSource.{LeftSo, IsCause};
@@ -87,7 +87,7 @@ impl StepReader {
         vars: &[Var],
         ended: bool,
     ) -> Result<Option<Next>, AllocError>
-        requires vars { HasVars vars.now }
+        requires vars { HaveInitialValues vars.now }
         requires some { 0 < span (line_in self.old ended) }
         requires within { self.old.at + span (line_in self.old ended) ≤ file_limit }
         ensures gives { IfOk result (Judges vars.now self.old self.new ended) }
@@ -126,7 +126,7 @@ impl StepReader {
         vars: &[Var],
         source: &mut S,
     ) -> Result<Option<Next>, Stop>
-        requires { HasVars vars.now }
+        requires { HaveInitialValues vars.now }
         ensures gives { IfOk result (λ next. LeftSo (S.left source.old) (S.left source.new) (GivesLine vars.now self.old self.new next)) }
         ensures settable { IfOk result (λ next. next ≡ Some Next.Step → AllByRecursion (IsSettable vars.now) (settings_of_step self.new)) }
         ensures on { IfOk result (λ next. IfNone next (self.old.at < self.new.at)) }
@@ -154,7 +154,7 @@ impl StepReader {
         vars: &[Var],
         source: &mut S,
     ) -> Result<Next, Stop>
-        requires { HasVars vars.now }
+        requires { HaveInitialValues vars.now }
         ensures gives { IfOk result (λ next. LeftSo (S.left source.old) (S.left source.new) (Gives vars.now self.old self.new next)) }
         ensures settable { IfOk result (λ next. next ≡ Next.Step → AllByRecursion (IsSettable vars.now) (settings_of_step self.new)) }
         ensures cause { IfErr result (λ stop. IsCause stop (S.faults source.old) (S.faults source.new)) }

@@ -2,7 +2,7 @@
 
 ghost use Rattle.std.specs.Prelude.{◌≡◌, IfOk};
 ghost use Rattle.bit_ops.specs.Width.{IsWidth};
-ghost use Rattle.net_ir.specs.Plain.{HasVars};
+ghost use Rattle.net_ir.specs.Plain.{HaveInitialValues};
 
 use crate::step::{Next, StepReader};
 use crate::stop::Stop;
@@ -33,7 +33,7 @@ fn var(alloc: Global, name: &[u8], role: Role, width: u32) -> Result<Var, AllocE
 
 // The inputs `a` of one bit, `w` of 8 and `q` of 64, and the output `y`.
 fn ports(alloc: Global) -> Result<Vec<Var>, AllocError>
-    ensures { IfOk result (λ vars. HasVars vars.items) }
+    ensures { IfOk result (λ vars. HaveInitialValues vars.items) }
 {
     let mut vars = Vec::new(alloc);
     vars.push(var(alloc, b"a", Role::Input, 1)?)?;
@@ -60,7 +60,7 @@ fn told(
     bytes: Vec<u8>,
     most: u64,
 ) -> Result<String, Fail>
-    requires { HasVars vars.now }
+    requires { HaveInitialValues vars.now }
 {
     let alloc = rt.alloc();
     let mut source = source(alloc, bytes);

@@ -1,12 +1,12 @@
 -- One layer of a term: what is lawful of it, and what its width and word are.
-use Rattle.std.proofs.Common.{◌≡◌, ℕ, zero, suc, ◌<◌, ◌≤◌, ◌+◌, List, [], ◌∷◌, ◌++◌, length, map, take, take_all, get_or, refl, sym, ◌∙◌, ap, subst, arith, inl, inr, Option, Some, None}
-use Rattle.std.specs.Prelude.{slice_index, slice_set, ◌⊎◌}
+use Rattle.std.proofs.Common.{◌≡◌, ℕ, zero, suc, ◌<◌, ◌≤◌, ◌+◌, List, [], ◌∷◌, ◌++◌, length, map, take, take_all, get_or, refl, sym, ◌∙◌, ap, subst, arith, lit≤}
+use Rattle.std.specs.Prelude.{slice_index, slice_set}
 use Rattle.std.proofs.lemmas.List.{length-map, take_more, take_more_set, map-append, get_or-map}
-use Rattle.bit_ops.specs.Width.{IsWidth, WidthsFit}
+use Rattle.bit_ops.specs.Width.{IsWidth, OneWidth, TwoWidths, ThreeWidths, WidthsFit}
 use Rattle.bit_ops.specs.Rows.{value_of}
 use Rattle.bit_ops.specs.declared.value.Bits.{Bits}
 use Rattle.bit_ops.specs.declared.operation.Op.{Op}
-use Rattle.bit_ops.specs.declared.operation.Op.TheVariants.{Not, And, Or, Xor}
+use Rattle.bit_ops.specs.declared.operation.Op.TheVariants as op
 use Rattle.sv_base.specs.declared.refusal.Place.{Place}
 use Rattle.net_ir.specs.declared.term.Term.{Term, Read, Apply}
 use Rattle.net_ir.specs.declared.term.Term.TheOpen as layer
@@ -15,7 +15,7 @@ use Rattle.net_ir.specs.declared.term.Term.TheVariants.{outs-Read, outs-Apply}
 use Rattle.net_ir.specs.declared.term.Term.TheViews.{out-Term}
 use Rattle.net_ir.specs.declared.term.Term.TheFolds.{map-Term, every-Term, every_here-Term, every_held-Term, fold_out-Term}
 use Rattle.net_ir.specs.Value.{words, widths, operands, operand_of_layer, operand_of, size}
-use Rattle.net_ir.specs.Plain.{IsKnown, IsLawfulLayer, IsLawful}
+use Rattle.net_ir.specs.Plain.{IsLawfulLayer, IsLawful}
 use Rattle.net_ir.proofs.Terms.{width_is_size}
 
 -- a lawful read is of a variable that is there
@@ -23,7 +23,7 @@ pub lawful_read : (ws : List ℕ) (var : ℕ) (place : Place) → IsLawful ws (R
 lawful_read ws var place lawful = subst (IsLawfulLayer ws) (outs-Read var place) (every_here-Term (IsLawfulLayer ws) (Read var place) lawful)
 
 -- a lawful operation has a width and the operands of its row
-pub lawful_apply : (ws : List ℕ) (op : Op) (width lo : ℕ) (args : List Term) → IsLawful ws (Apply op width lo args) → IsWidth width × WidthsFit op width lo (map (size ws) args) × IsKnown op
+pub lawful_apply : (ws : List ℕ) (op : Op) (width lo : ℕ) (args : List Term) → IsLawful ws (Apply op width lo args) → IsWidth width × WidthsFit op width lo (map (size ws) args)
 lawful_apply ws op width lo args lawful = subst (IsLawfulLayer ws) (outs-Apply op width lo args) (every_here-Term (IsLawfulLayer ws) (Apply op width lo args) lawful)
 
 -- each of its operands is lawful
@@ -46,15 +46,52 @@ lawful_arg ws op width lo args k a lawful within here =
     let held = lawful_held ws op width lo args all.0 (all.1 ∙ outs-Apply op width lo args) in
     lawful_at ws held.0 args k a held.1 within here
 
--- the operations that the evaluator performs have at most two operands
-pub known_few : (op : Op) (width lo : ℕ) (ns : List ℕ) → IsKnown op → WidthsFit op width lo ns → length ns ≤ 2
-known_few op width lo [] known fits = omega arith
-known_few op width lo (a ∷ []) known fits = omega arith
-known_few op width lo (a ∷ b ∷ []) known fits = omega arith
-known_few op width lo (a ∷ b ∷ c ∷ ns) (inl is) fits = absurd (subst (λ o. WidthsFit o width lo (a ∷ b ∷ c ∷ ns)) is fits)
-known_few op width lo (a ∷ b ∷ c ∷ ns) (inr (inl is)) fits = absurd (subst (λ o. WidthsFit o width lo (a ∷ b ∷ c ∷ ns)) is fits)
-known_few op width lo (a ∷ b ∷ c ∷ ns) (inr (inr (inl is))) fits = absurd (subst (λ o. WidthsFit o width lo (a ∷ b ∷ c ∷ ns)) is fits)
-known_few op width lo (a ∷ b ∷ c ∷ ns) (inr (inr (inr is))) fits = absurd (subst (λ o. WidthsFit o width lo (a ∷ b ∷ c ∷ ns)) is fits)
+-- no operation has more than three operands
+one_long : (P : ℕ → Type 0) (ns : List ℕ) → OneWidth P ns → length ns ≤ 1
+one_long P [] fits = absurd fits
+one_long P (a ∷ []) fits = omega arith
+one_long P (a ∷ b ∷ ns) fits = absurd fits
+
+two_long : (P : ℕ → ℕ → Type 0) (ns : List ℕ) → TwoWidths P ns → length ns ≤ 2
+two_long P [] fits = absurd fits
+two_long P (a ∷ ns) fits = let rest = one_long (P a) ns fits in omega arith
+
+three_long : (P : ℕ → ℕ → ℕ → Type 0) (ns : List ℕ) → ThreeWidths P ns → length ns ≤ 3
+three_long P [] fits = absurd fits
+three_long P (a ∷ ns) fits = let rest = two_long (P a) ns fits in omega arith
+
+at_most_three : {n m : ℕ} → n ≤ m → m ≤ 3 → n ≤ 3
+at_most_three a b = omega arith
+
+pub few_operands : (op : Op) (width lo : ℕ) (ns : List ℕ) → WidthsFit op width lo ns → length ns ≤ 3
+few_operands op.Const width lo ns fits = at_most_three (one_long _ ns fits) (lit≤ tt)
+few_operands op.Zext width lo ns fits = at_most_three (one_long _ ns fits) (lit≤ tt)
+few_operands op.Sext width lo ns fits = at_most_three (one_long _ ns fits) (lit≤ tt)
+few_operands op.Slice width lo ns fits = at_most_three (one_long _ ns fits) (lit≤ tt)
+few_operands op.Concat width lo ns fits = at_most_three (two_long _ ns fits) (lit≤ tt)
+few_operands op.Not width lo ns fits = at_most_three (one_long _ ns fits) (lit≤ tt)
+few_operands op.Neg width lo ns fits = at_most_three (one_long _ ns fits) (lit≤ tt)
+few_operands op.And width lo ns fits = at_most_three (two_long _ ns fits) (lit≤ tt)
+few_operands op.Or width lo ns fits = at_most_three (two_long _ ns fits) (lit≤ tt)
+few_operands op.Xor width lo ns fits = at_most_three (two_long _ ns fits) (lit≤ tt)
+few_operands op.Add width lo ns fits = at_most_three (two_long _ ns fits) (lit≤ tt)
+few_operands op.Sub width lo ns fits = at_most_three (two_long _ ns fits) (lit≤ tt)
+few_operands op.Mul width lo ns fits = at_most_three (two_long _ ns fits) (lit≤ tt)
+few_operands op.DivU width lo ns fits = at_most_three (two_long _ ns fits) (lit≤ tt)
+few_operands op.DivS width lo ns fits = at_most_three (two_long _ ns fits) (lit≤ tt)
+few_operands op.ModU width lo ns fits = at_most_three (two_long _ ns fits) (lit≤ tt)
+few_operands op.ModS width lo ns fits = at_most_three (two_long _ ns fits) (lit≤ tt)
+few_operands op.Shl width lo ns fits = at_most_three (two_long _ ns fits) (lit≤ tt)
+few_operands op.ShrU width lo ns fits = at_most_three (two_long _ ns fits) (lit≤ tt)
+few_operands op.ShrS width lo ns fits = at_most_three (two_long _ ns fits) (lit≤ tt)
+few_operands op.Eq width lo ns fits = at_most_three (two_long _ ns fits) (lit≤ tt)
+few_operands op.LtU width lo ns fits = at_most_three (two_long _ ns fits) (lit≤ tt)
+few_operands op.LtS width lo ns fits = at_most_three (two_long _ ns fits) (lit≤ tt)
+few_operands op.RedAnd width lo ns fits = at_most_three (one_long _ ns fits) (lit≤ tt)
+few_operands op.RedOr width lo ns fits = at_most_three (one_long _ ns fits) (lit≤ tt)
+few_operands op.RedXor width lo ns fits = at_most_three (one_long _ ns fits) (lit≤ tt)
+few_operands op.Mux width lo ns fits = at_most_three (three_long _ ns fits) (lit≤ tt)
+few_operands op.Insert width lo ns fits = at_most_three (two_long _ ns fits) (lit≤ tt)
 
 -- ---- widths and words
 

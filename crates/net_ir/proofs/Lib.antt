@@ -4,3 +4,4 @@ pub mod Order
 pub mod Unique
 pub mod Passes
 pub mod Solved
+pub mod Turns

@@ -18,21 +18,21 @@ use Rattle.net_ir.proofs.Terms.{AgreeAt, operand_is_local}
 
 -- ---- tests
 
-and_of_true : (a b : Bool) → a ≡ true → b ≡ true → (a && b) ≡ true
+pub and_of_true : (a b : Bool) → a ≡ true → b ≡ true → (a && b) ≡ true
 and_of_true a b p q = cc
 
-front_of_and : (a b : Bool) → (a && b) ≡ true → a ≡ true
+pub front_of_and : (a b : Bool) → (a && b) ≡ true → a ≡ true
 front_of_and true b h = refl
 front_of_and false b h = h
 
-back_of_and : (a b : Bool) → (a && b) ≡ true → b ≡ true
+pub back_of_and : (a b : Bool) → (a && b) ≡ true → b ≡ true
 back_of_and true b h = h
 back_of_and false b h = cc
 
 eq_test : (a b : ℕ) → a ≡ b → (a == b) ≡ true
 eq_test a b h = grind (arith, nat_tests)
 
-test_eq : (a b : ℕ) → (a == b) ≡ true → a ≡ b
+pub test_eq : (a b : ℕ) → (a == b) ≡ true → a ≡ b
 test_eq a b h = grind (arith, nat_tests)
 
 ne_test : (a b : ℕ) → (a ≡ b → ⊥) → (a == b) ≡ false
@@ -45,20 +45,27 @@ test_lt : (a b : ℕ) → nat_lt a b ≡ true → a < b
 test_lt a b h = grind (arith, nat_tests)
 
 -- two numbers are one or are not
-same_or_not : (a b : ℕ) → (a ≡ b) ⊎ (a ≡ b → ⊥)
+pub same_or_not : (a b : ℕ) → (a ≡ b) ⊎ (a ≡ b → ⊥)
 same_or_not a b = decide (a == b) refl where
   decide : (t : Bool) → (a == b) ≡ t → (a ≡ b) ⊎ (a ≡ b → ⊥)
   decide true h = inl (test_eq a b h)
   decide false h = inr (λ e. absurd (let clash : true ≡ false = sym (eq_test a b e) ∙ h in cc))
 
+-- a number is below another or not
+pub within_or_past : (a b : ℕ) → (a < b) ⊎ (b ≤ a)
+within_or_past a b = decide (nat_lt a b) refl where
+  decide : (t : Bool) → nat_lt a b ≡ t → (a < b) ⊎ (b ≤ a)
+  decide true h = inl (test_lt a b h)
+  decide false h = inr (grind (arith, nat_tests))
+
 -- ---- one driver of the whole of a variable
 
 -- it writes each bit of its variable
-writes_all : (ws : List ℕ) (var k : ℕ) → k < slice_index ws var → ((var == var) && nat_lt k (slice_index ws var)) ≡ true
+pub writes_all : (ws : List ℕ) (var k : ℕ) → k < slice_index ws var → ((var == var) && nat_lt k (slice_index ws var)) ≡ true
 writes_all ws var k within = and_of_true (var == var) (nat_lt k (slice_index ws var)) (eq_test var var refl) (lt_test k (slice_index ws var) within)
 
 -- and no bit of another
-writes_no_other : (ws : List ℕ) (var x k : ℕ) → (var ≡ x → ⊥) → ((var == x) && nat_lt k (slice_index ws var)) ≡ false
+pub writes_no_other : (ws : List ℕ) (var x k : ℕ) → (var ≡ x → ⊥) → ((var == x) && nat_lt k (slice_index ws var)) ≡ false
 writes_no_other ws var x k other = ap (λ (b : Bool). b && nat_lt k (slice_index ws var)) (ne_test var x other)
 
 -- ---- what one pass over the drivers leaves
@@ -137,7 +144,7 @@ gives_none : (ws : List ℕ) (d : Driver) (u : List ℕ) (x k : ℕ) → writes 
 gives_none ws (Assign target value at) u x k clear = ap (λ (b : Bool). if b then Some (bit_at (val ws u value) k) else None) clear
 
 -- a driver of a whole variable that does not write bit 0 of a variable writes no bit of it
-writes_none : (ws : List ℕ) (d : Driver) (x k : ℕ) → ArePositive ws → IsWhole ws d → writes ws d x 0 ≡ false → writes ws d x k ≡ false
+pub writes_none : (ws : List ℕ) (d : Driver) (x k : ℕ) → ArePositive ws → IsWhole ws d → writes ws d x 0 ≡ false → writes ws d x k ≡ false
 writes_none ws (Assign (Of None name place) value at) x k positive whole clear = refl
 writes_none ws (Assign (Of (Some var) name place) value at) x k positive whole clear =
     writes_no_other ws var x k (λ same.

@@ -13,6 +13,7 @@ use Rattle.net_ir.specs.declared.design.Driver.{Driver}
 use Rattle.net_ir.specs.declared.design.Spec.{Spec}
 use Rattle.net_ir.specs.Value.{words, widths, widths_of}
 use Rattle.net_ir.specs.Drive.{gives, writes}
+use Rattle.net_ir.specs.Run.{at_levels}
 use Rattle.net_ir.specs.Solution.{Solves, IsValuation, IsDriven}
 use Rattle.net_ir.specs.Plain.{IsPlain, IsInput, SparesInputs, NoneWrites}
 use Rattle.net_ir.specs.Pass.{run, source_at, source_of, sources_of}
@@ -71,13 +72,13 @@ spared vars (d ∷ drivers) x spares input = (by_test (writes (widths_of vars) d
   by_test false is = refl
   by_test true is = absurd (spares.0 x 0 is input)
 
-pub run_solves : (spec : Spec) (inputs values : List Bits) → IsPlain spec → widths inputs ≡ widths_of spec.vars → widths values ≡ widths_of spec.vars → words values ≡ run (widths_of spec.vars) spec.drivers (words (sources_of spec.vars inputs)) → Solves spec (words inputs) (words values)
+pub run_solves : (spec : Spec) (inputs values : List Bits) → IsPlain spec → widths inputs ≡ widths_of spec.vars → widths values ≡ widths_of spec.vars → words values ≡ run (widths_of spec.vars) spec.drivers (words (sources_of spec.vars inputs)) → Solves spec (at_levels (words inputs)) (words values)
 run_solves spec inputs values plain is_inputs is_values is_run =
     let vars = spec.vars in
     let ws = widths_of vars in
     let before = words (sources_of vars inputs) in
     let positive = positive_widths vars plain.vars in
-    let sources_long : length (sources_of vars inputs) ≡ length vars = length_from_widths (sources_of vars inputs) vars (sources_widths vars inputs plain.vars.each is_inputs) in
+    let sources_long : length (sources_of vars inputs) ≡ length vars = length_from_widths (sources_of vars inputs) vars (sources_widths vars inputs plain.vars is_inputs) in
     let before_long : length before ≡ length ws = length-map (sources_of vars inputs) (λ b. b.word) ∙ sources_long ∙ sym (length-widths vars) in
     let leaves : (x : ℕ) → NoneWrites ws spec.drivers x 0 → slice_index (words values) x ≡ slice_index before x =
     λ x none. ap (λ u. slice_index u x) is_run ∙ run_leaves ws spec.drivers before x positive plain.whole none in

@@ -1,4 +1,4 @@
--- A plain design has at most one solution for given levels of its inputs, and so one trace.
+-- A plain design has at most one solution in a state, and so one trace.
 use Rattle.std.proofs.Common.{◌≡◌, ℕ, zero, suc, ◌<◌, ◌≤◌, ◌^◌, ◌+◌, get_or, List, [], ◌∷◌, ◌++◌, length, map, refl, sym, ◌∙◌, ap, subst, arith, Option, None, Some, inl, inr}
 use Rattle.std.specs.Prelude.{slice_index, slice_get, ◌⊎◌}
 use Rattle.std.specs.List.{AllByRecursion}
@@ -12,8 +12,8 @@ use Rattle.net_ir.specs.declared.design.Var.{Var}
 use Rattle.net_ir.specs.declared.design.Spec.{Spec}
 use Rattle.net_ir.specs.Value.{widths_of}
 use Rattle.net_ir.specs.Solution.{Solves, IsValuation}
-use Rattle.net_ir.specs.Plain.{IsPlain, HasVars, NoneWrites}
-use Rattle.net_ir.specs.Run.{State, Setting, Step, Values, start, Follows}
+use Rattle.net_ir.specs.Plain.{IsPlain, HaveInitialValues, NoneWrites}
+use Rattle.net_ir.specs.Run.{State, at_levels, Step, Values, start, Follows}
 use Rattle.net_ir.specs.Text.{header, line}
 use Rattle.net_ir.specs.Trace.{Shows, GoesOn, IsTrace}
 use Rattle.net_ir.proofs.Order.{ArePositive, AgreeBut, agree_all, none_gives}
@@ -39,10 +39,10 @@ var_at vars x within = by_case (slice_get_cases vars x).1 where
   by_case (inl found) = (found.0, found.2)
   by_case (inr past) = absurd (let far : length vars ≤ x = past.0 in omega arith)
 
-pub positive_widths : (vars : List Var) → HasVars vars → ArePositive (widths_of vars)
+pub positive_widths : (vars : List Var) → HaveInitialValues vars → ArePositive (widths_of vars)
 positive_widths vars has x within =
     let found = var_at vars x (subst (λ n. x < n) (length-widths vars) within) in
-    let same : found.0.init.width ≡ found.0.width = all_get (λ (v : Var). v.init.width ≡ v.width) vars x found.0 has.each found.1 in
+    let same : found.0.init.width ≡ found.0.width = all_get (λ (v : Var). v.init.width ≡ v.width) vars x found.0 has found.1 in
     let one : 1 ≤ found.0.init.width = found.0.init.positive in
     subst (λ n. 0 < n) (sym (width_is vars x found.0 found.1)) (omega arith)
 
@@ -58,8 +58,8 @@ input_or_not Input = inl refl
 input_or_not Output = inr (λ e. cc)
 
 -- two solutions agree where no driver writes
-agree_undriven : (spec : Spec) (inputs u v : List ℕ) → IsPlain spec → Solves spec inputs u → Solves spec inputs v → AgreeBut (widths_of spec.vars) spec.drivers u v
-agree_undriven spec inputs u v plain a b x none = by_case (slice_get_cases spec.vars x).1 where
+agree_undriven : (spec : Spec) (state : State) (u v : List ℕ) → IsPlain spec → Solves spec state u → Solves spec state v → AgreeBut (widths_of spec.vars) spec.drivers u v
+agree_undriven spec state u v plain a b x none = by_case (slice_get_cases spec.vars x).1 where
   by_role : (w : Var) → slice_get spec.vars x ≡ Some w → (w.role ≡ Input) ⊎ (w.role ≡ Input → ⊥) → slice_index u x ≡ slice_index v x
   by_role w is (inl input) = a.set x w is input ∙ sym (b.set x w is input)
   by_role w is (inr inner) =
@@ -73,21 +73,21 @@ agree_undriven spec inputs u v plain a b x none = by_case (slice_get_cases spec.
   by_case (inr past) =
       get_or_past u x 0 (subst (λ n. n ≤ x) (sym a.valuation.each) past.0) ∙ sym (get_or_past v x 0 (subst (λ n. n ≤ x) (sym b.valuation.each) past.0))
 
-pub one_solution : (spec : Spec) (inputs u v : List ℕ) → IsPlain spec → Solves spec inputs u → Solves spec inputs v → u ≡ v
-one_solution spec inputs u v plain a b =
+pub one_solution : (spec : Spec) (state : State) (u v : List ℕ) → IsPlain spec → Solves spec state u → Solves spec state v → u ≡ v
+one_solution spec state u v plain a b =
     ext_get_or 0 u v (a.valuation.each ∙ sym b.valuation.each) (λ x within.
     agree_all (widths_of spec.vars) spec.drivers u v (positive_widths spec.vars plain.vars) plain.whole plain.ordered
     (λ y there. (small_words spec.vars u a.valuation y there, small_words spec.vars v b.valuation y there))
-    a.driven b.driven (agree_undriven spec inputs u v plain a b) x)
+    a.driven b.driven (agree_undriven spec state u v plain a b) x)
 
 -- ---- one trace
 
 pub one_line : (spec : Spec) (number : ℕ) (state : State) (a b : List ℕ) → IsPlain spec → Shows spec number state a → Shows spec number state b → a ≡ b
-one_line spec number state a b plain p q = p.2 ∙ ap (line number spec.vars) (one_solution spec state.inputs p.0 q.0 plain p.1 q.1) ∙ sym q.2
+one_line spec number state a b plain p q = p.2 ∙ ap (line number spec.vars) (one_solution spec state p.0 q.0 plain p.1 q.1) ∙ sym q.2
 
 pub one_next : (spec : Spec) (state : State) (step : Step) (a b : State) → Follows spec state step a → Follows spec state step b → a ≡ b
 one_next spec state (Values settings) a b p q =
-    let make : List ℕ → State = λ inputs. record { inputs = inputs } in ap make (p ∙ sym q)
+    ap at_levels (p ∙ sym q)
 
 pub one_rest : (spec : Spec) (number : ℕ) (state : State) (steps : List Step) (a b : List ℕ) → IsPlain spec → GoesOn spec number state steps a → GoesOn spec number state steps b → a ≡ b
 one_rest spec number state [] a b plain p q = p ∙ sym q

@@ -2,8 +2,6 @@
 use Rattle.std.specs.Prelude.{◌≡◌, ℕ, ◌<◌, ◌≤◌, ◌^◌, List, [], ◌∷◌, length, Option, None, Some, false, IsTrue, slice_get, slice_index, map, ⊤, ◌⊎◌}
 use Rattle.std.specs.List.{AllByRecursion}
 use Rattle.bit_ops.specs.Width.{IsWidth, WidthsFit}
-use Rattle.bit_ops.specs.declared.operation.Op.{Op}
-use Rattle.bit_ops.specs.declared.operation.Op.TheVariants.{Not, And, Or, Xor}
 use Rattle.net_ir.specs.declared.term.Term.{Term}
 use Rattle.net_ir.specs.declared.term.Term.TheOpen.{Term-F, Const, Read, Apply}
 use Rattle.net_ir.specs.declared.term.Term.TheFolds.{every-Term}
@@ -16,15 +14,11 @@ use Rattle.net_ir.specs.declared.design.Spec.{Spec}
 use Rattle.net_ir.specs.Value.{widths_of, size}
 use Rattle.net_ir.specs.Drive.{writes, driver_reads}
 
--- an operation that the evaluator performs
-abbrev pub IsKnown : Op → Type 0
-IsKnown op = (op ≡ Not) ⊎ ((op ≡ And) ⊎ ((op ≡ Or) ⊎ (op ≡ Xor)))
-
 -- one layer of a lawful term: a read names a variable that is there, an operation has the operands of its row
 abbrev pub IsLawfulLayer : List ℕ → Term-F Term → Type 0
 IsLawfulLayer ws (Const bits) = ⊤
 IsLawfulLayer ws (Read var place) = var < length ws
-IsLawfulLayer ws (Apply op width lo args) = IsWidth width × WidthsFit op width lo (map (size ws) args) × IsKnown op
+IsLawfulLayer ws (Apply op width lo args) = IsWidth width × WidthsFit op width lo (map (size ws) args)
 
 -- a term each layer of which is lawful, where ws are the widths of the variables
 abbrev pub IsLawful : List ℕ → Term → Type 0
@@ -63,13 +57,12 @@ abbrev pub AreOrdered : List ℕ → List Driver → Type 0
 AreOrdered ws [] = ⊤
 AreOrdered ws (d ∷ later) = IsBefore ws d later × AreOrdered ws later
 
--- the shape of a design: its variables have widths that values may have, and initial values of their widths
-pub record HasVars (vars : List Var) : Type 0 where
-  pub few : length vars < 2 ^ 32
-  pub each : AllByRecursion (λ v. (v.init.width ≡ v.width)) vars
+-- each variable has an initial value of its width
+abbrev pub HaveInitialValues : List Var → Type 0
+HaveInitialValues vars = AllByRecursion (λ v. v.init.width ≡ v.width) vars
 
 pub record IsPlain (spec : Spec) : Type 0 where
-  pub vars : HasVars spec.vars
+  pub vars : HaveInitialValues spec.vars
   pub whole : AllByRecursion (IsWhole (widths_of spec.vars)) spec.drivers
   pub inner : AllByRecursion (SparesInputs spec.vars) spec.drivers
   pub ordered : AreOrdered (widths_of spec.vars) spec.drivers

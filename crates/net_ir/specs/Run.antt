@@ -6,6 +6,10 @@ use Rattle.net_ir.specs.declared.design.Spec.{Spec}
 pub record State : Type 0 where
   pub inputs : List ℕ
 
+-- the state with these levels
+abbrev pub at_levels : List ℕ → State
+at_levels levels = record { inputs = levels }
+
 -- a variable and the word that it is set to
 pub record Setting : Type 0 where
   pub var : ℕ
@@ -17,7 +21,7 @@ pub data Step : Type 0 where
 
 -- the state before any step: every input is 0
 abbrev pub start : Spec → State
-start spec = record { inputs = map (λ _. 0) spec.vars }
+start spec = at_levels (map (λ _. 0) spec.vars)
 
 -- levels after settings, the first of them first
 abbrev pub set_all : List Setting → List ℕ → List ℕ

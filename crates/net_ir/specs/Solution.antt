@@ -8,6 +8,7 @@ use Rattle.net_ir.specs.declared.design.Driver.{Driver}
 use Rattle.net_ir.specs.declared.design.Spec.{Spec}
 use Rattle.net_ir.specs.Value.{widths_of}
 use Rattle.net_ir.specs.Drive.{gives}
+use Rattle.net_ir.specs.Run.{State}
 
 -- there is a word for each variable, and it fits the variable's width
 pub record IsValuation (vars : List Var) (u : List ℕ) : Type 0 where
@@ -18,12 +19,11 @@ pub record IsValuation (vars : List Var) (u : List ℕ) : Type 0 where
 abbrev pub IsDriven : List ℕ → List ℕ → Driver → Type 0
 IsDriven ws u d = (x k bit : ℕ) → gives ws d u x k ≡ Some bit → bit_at (slice_index u x) k ≡ bit
 
--- u solves the design for these levels of the inputs: the words of the variables that are inputs; a word for each variable
--- stands in the list, and those of other variables are not read
-pub record Solves (spec : Spec) (inputs : List ℕ) (u : List ℕ) : Type 0 where
+-- u solves the design in this state
+pub record Solves (spec : Spec) (state : State) (u : List ℕ) : Type 0 where
   pub valuation : IsValuation spec.vars u
   -- each input is as it is set
-  pub set : (x : ℕ) (v : Var) → slice_get spec.vars x ≡ Some v → v.role ≡ Input → slice_index u x ≡ slice_index inputs x
+  pub set : (x : ℕ) (v : Var) → slice_get spec.vars x ≡ Some v → v.role ≡ Input → slice_index u x ≡ slice_index state.inputs x
   -- each bit that a driver writes is what the driver gives on u
   pub driven : AllByRecursion (IsDriven (widths_of spec.vars) u) spec.drivers
   -- each other bit has its initial value

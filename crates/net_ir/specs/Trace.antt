@@ -7,7 +7,7 @@ use Rattle.net_ir.specs.Text.{header, line}
 
 -- the line of the step of this number, which has led to this state: the ports' values in the solution
 abbrev pub Shows : Spec → ℕ → State → List ℕ → Type 0
-Shows spec number state bytes = (u : List ℕ) × Solves spec state.inputs u × (bytes ≡ line number spec.vars u)
+Shows spec number state bytes = (u : List ℕ) × Solves spec state u × (bytes ≡ line number spec.vars u)
 
 -- the lines of steps that follow the step of this number and its state
 abbrev pub GoesOn : Spec → ℕ → State → List Step → List ℕ → Type 0

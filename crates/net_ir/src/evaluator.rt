@@ -1,33 +1,85 @@
 //! A plain evaluator: it takes a design's drivers once, in the order of the text.
 
 ghost use Rattle.std.specs.Prelude.{◌≡◌, [], ◌∷◌, length};
-ghost use Rattle.bit_ops.specs.Width.{WidthsFit};
+ghost use Rattle.bit_ops.specs.Width.{IsWidth, WidthsFit};
 ghost use Rattle.bit_ops.specs.Rows.{value_of};
 ghost use Rattle.std.specs.List.{AllByRecursion};
 ghost use Rattle.net_ir.specs.Value.{words, widths, widths_of, operands, size, val};
-ghost use Rattle.net_ir.specs.Plain.{IsKnown, IsLawful, IsWhole, HasVars, IsPlain};
+ghost use Rattle.net_ir.specs.Plain.{IsLawful, IsWhole, HaveInitialValues, IsPlain};
 ghost use Rattle.net_ir.specs.Pass.{source_of, sources_of, IsStorable, store, effect, run};
+ghost use Rattle.net_ir.specs.Run.{at_levels};
 ghost use Rattle.net_ir.specs.Solution.{Solves};
 
 use crate::design::{Driver, Role, Spec, Target, Var};
 use crate::term::Term;
-use bit_ops::{Bits, Op, bit_and, bit_not, bit_or, bit_xor};
+use bit_ops::{
+    Bits, Op, add, bit_and, bit_not, bit_or, bit_xor, concat, div_s, div_u, eq, insert, lt_s, lt_u,
+    mod_s, mod_u, mul, mux, neg, red_and, red_or, red_xor, sext, shl, shr_s, shr_u, slice, sub,
+    zext,
+};
+
+/// The value of an operation on one operand.
+fn apply_one(op: Op, width: u32, lo: u32, a: Bits) -> Bits
+    requires width { IsWidth width }
+    requires fits { WidthsFit op width lo (a.width ∷ []) }
+    ensures width { result.width ≡ width }
+    ensures word { result.word ≡ value_of op width lo ((a.width, a.word) ∷ []) }
+{
+    match op {
+        Op::Const => a,
+        Op::Zext => zext(a, width),
+        Op::Sext => sext(a, width),
+        Op::Slice => slice(a, lo, width),
+        Op::Not => bit_not(a),
+        Op::Neg => neg(a),
+        Op::RedAnd => red_and(a),
+        Op::RedOr => red_or(a),
+        Op::RedXor => red_xor(a),
+        _ => unreachable!(),
+    }
+}
+
+/// The value of an operation on two operands.
+fn apply_two(op: Op, width: u32, lo: u32, a: Bits, b: Bits) -> Bits
+    requires width { IsWidth width }
+    requires fits { WidthsFit op width lo (a.width ∷ b.width ∷ []) }
+    ensures width { result.width ≡ width }
+    ensures word { result.word ≡ value_of op width lo ((a.width, a.word) ∷ (b.width, b.word) ∷ []) }
+{
+    match op {
+        Op::Concat => concat(a, b),
+        Op::And => bit_and(a, b),
+        Op::Or => bit_or(a, b),
+        Op::Xor => bit_xor(a, b),
+        Op::Add => add(a, b),
+        Op::Sub => sub(a, b),
+        Op::Mul => mul(a, b),
+        Op::DivU => div_u(a, b),
+        Op::DivS => div_s(a, b),
+        Op::ModU => mod_u(a, b),
+        Op::ModS => mod_s(a, b),
+        Op::Shl => shl(a, b),
+        Op::ShrU => shr_u(a, b),
+        Op::ShrS => shr_s(a, b),
+        Op::Eq => eq(a, b),
+        Op::LtU => lt_u(a, b),
+        Op::LtS => lt_s(a, b),
+        Op::Insert => insert(a, b, lo),
+        _ => unreachable!(),
+    }
+}
 
 /// The value of an operation on its operands, by its row of the table of operations.
 fn apply(op: Op, width: u32, lo: u32, values: &[Bits]) -> Bits
-    requires known { IsKnown op }
+    requires width { IsWidth width }
     requires fits { WidthsFit op width lo (widths values.now) }
     ensures width { result.width ≡ width }
     ensures word { result.word ≡ value_of op width lo (operands values.now) }
 {
     match values {
-        [a] => bit_not(*a),
-        [a, b] => match op {
-            Op::And => bit_and(*a, *b),
-            Op::Or => bit_or(*a, *b),
-            Op::Xor => bit_xor(*a, *b),
-            _ => unreachable!(),
-        },
+        [a] => apply_one(op, width, lo, *a),
+        [a, b] => apply_two(op, width, lo, *a, *b),
+        [a, b, c] => mux(*a, *b, *c),
         _ => unreachable!(),
     }
 }
@@ -65,7 +117,7 @@ pub fn solve(spec: &Spec, inputs: &[Bits], values: &mut [Bits])
     requires inputs { widths inputs.now ≡ widths_of spec.now.vars }
     requires values { widths values.old ≡ widths_of spec.now.vars }
     ensures widths { widths values.new ≡ widths_of spec.now.vars }
-    ensures solved { Solves spec.now (words inputs.now) (words values.new) }
+    ensures solved { Solves spec.now (at_levels (words inputs.now)) (words values.new) }
 {
     set_sources(spec.vars.as_slice(), inputs, values);
     drive_all(spec.drivers.as_slice(), values);
@@ -83,7 +135,7 @@ fn source(var: &Var, input: Bits) -> Bits
 
 /// Gives each variable what it has where no driver writes it.
 fn set_sources(vars: &[Var], inputs: &[Bits], values: &mut [Bits])
-    requires vars { HasVars vars.now }
+    requires vars { HaveInitialValues vars.now }
     requires inputs { widths inputs.now ≡ widths_of vars.now }
     requires values { length values.old ≡ length vars.now }
     ensures widths { widths values.new ≡ widths_of vars.now }

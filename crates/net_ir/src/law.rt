@@ -4,12 +4,12 @@ ghost use Rattle.std.specs.Prelude.{◌≡◌, ℕ, List};
 ghost use Rattle.net_ir.specs.declared.design.Spec.{Spec};
 ghost use Rattle.net_ir.specs.Plain.{IsPlain};
 ghost use Rattle.net_ir.specs.Solution.{Solves};
-ghost use Rattle.net_ir.specs.Run.{Step};
+ghost use Rattle.net_ir.specs.Run.{State, Step};
 ghost use Rattle.net_ir.specs.Trace.{IsTrace};
 
-/// A plain design has at most one solution for given levels of its inputs.
+/// A plain design has at most one solution in a state.
 pub fn one_solution()
-    ensures { (spec : Spec) (inputs u v : List ℕ) → IsPlain spec → Solves spec inputs u → Solves spec inputs v → u ≡ v }
+    ensures { (spec : Spec) (state : State) (u v : List ℕ) → IsPlain spec → Solves spec state u → Solves spec state v → u ≡ v }
 {}
 
 /// A plain design has at most one trace over given steps.

@@ -1,4 +1,4 @@
-use Rattle.bit_ops.proofs.Algebra.{slice-insert, slice-insert_below, slice-insert_above, insert-slice, insert-insert, insert_whole}
+use Rattle.bit_ops.proofs.Algebra.{slice-insert, slice-insert_below, slice-insert_above, insert-slice, insert-insert, insert-insert_apart, insert_whole, insert-concat}
 use Rattle.bit_ops.proofs.laws.insertions.Goals as goal
 
 pub returns-clause-slice_inside : goal.returns-clause-slice_inside
@@ -16,5 +16,11 @@ returns-clause-of_slice c = insert-slice
 pub returns-clause-twice : goal.returns-clause-twice
 returns-clause-twice c = insert-insert
 
+pub returns-clause-apart : goal.returns-clause-apart
+returns-clause-apart c = insert-insert_apart
+
 pub returns-clause-whole : goal.returns-clause-whole
 returns-clause-whole c = insert_whole
+
+pub returns-clause-as_concat : goal.returns-clause-as_concat
+returns-clause-as_concat c = insert-concat

@@ -6,9 +6,9 @@ use Rattle.net_ir.specs.declared.term.Term.{Term, Read, Apply}
 use Rattle.net_ir.specs.declared.term.Term.TheFolds.{the_lemmas}
 use borrow.Author.Rules.{get_or_read}
 use Rattle.net_ir.specs.Value.{words, widths, operands, operand_of, size, val}
-use Rattle.net_ir.specs.Plain.{IsKnown, IsLawful}
+use Rattle.net_ir.specs.Plain.{IsLawful}
 use Rattle.net_ir.proofs.Terms.{width_is_size}
-use Rattle.net_ir.proofs.Layers.{lawful_read, lawful_apply, lawful_arg, known_few, operand_read, operand_apply, read_width, read_word, sizes_of_values, more_operands, all_fit, all_value, read_there}
+use Rattle.net_ir.proofs.Layers.{lawful_read, lawful_apply, lawful_arg, few_operands, operand_read, operand_apply, read_width, read_word, sizes_of_values, more_operands, all_fit, all_value, read_there}
 use Rattle.net_ir.proofs.evaluator.+evaluate.Goals as goal
 
 pub bounds-values-var : goal.bounds-values-var
@@ -19,9 +19,9 @@ loop-arg-init t c =
     let ws = widths c.args.values.now in
     let lawful : IsLawful ws (Apply c.in-Apply.op c.in-Apply.width c.in-Apply.lo c.in-Apply.args) = subst (IsLawful ws) c.in-Apply.is c.requires in
     let row = lawful_apply ws c.in-Apply.op c.in-Apply.width c.in-Apply.lo c.in-Apply.args lawful in
-    let few : length (map (size ws) c.in-Apply.args) ≤ 2 = known_few c.in-Apply.op c.in-Apply.width c.in-Apply.lo (map (size ws) c.in-Apply.args) row.2 row.1 in
-    let few_args : length c.in-Apply.args ≤ 2 = subst (λ n. n ≤ 2) (length-map c.in-Apply.args (size ws)) few in
-    record { count = refl; room = refl; few = subst (λ xs. length xs ≤ 2) (sym c.as_slice-arg-items.ensures) few_args; so_far = refl }
+    let few : length (map (size ws) c.in-Apply.args) ≤ 3 = few_operands c.in-Apply.op c.in-Apply.width c.in-Apply.lo (map (size ws) c.in-Apply.args) row.1 in
+    let few_args : length c.in-Apply.args ≤ 3 = subst (λ n. n ≤ 3) (length-map c.in-Apply.args (size ws)) few in
+    record { count = refl; room = refl; few = subst (λ xs. length xs ≤ 3) (sym c.as_slice-arg-items.ensures) few_args; so_far = refl }
 
 pub evaluate-requires : goal.evaluate-requires
 evaluate-requires t c =
@@ -51,10 +51,10 @@ loop-arg-preserved t c =
           (more_operands ws u c.loop-arg.given c.as_slice-arg-items.result.now c.loop-arg.arg-index c.evaluate.result c.arg-item.result here c.loop-arg-test.true c.arg-item.is value inv.so_far);
     }
 
-pub apply-requires-clause-known : goal.apply-requires-clause-known
-apply-requires-clause-known t c =
+pub apply-requires-clause-width : goal.apply-requires-clause-width
+apply-requires-clause-width t c =
     let ws = widths c.args.values.now in
-    (lawful_apply ws c.in-Apply.op c.in-Apply.width c.in-Apply.lo c.in-Apply.args (subst (IsLawful ws) c.in-Apply.is c.requires)).2
+    (lawful_apply ws c.in-Apply.op c.in-Apply.width c.in-Apply.lo c.in-Apply.args (subst (IsLawful ws) c.in-Apply.is c.requires)).0
 
 pub apply-requires-clause-fits : goal.apply-requires-clause-fits
 apply-requires-clause-fits t c =

@@ -10,6 +10,6 @@ abbrev pub invariant-loop-arg : goal.invariant-loop-arg
 invariant-loop-arg l = record {
   count : l.count ≡ l.arg-index;
   room : length l.given ≡ 3;
-  few : length l.arg-items ≤ 2;
+  few : length l.arg-items ≤ 3;
   so_far : operands (take l.arg-index l.given) ≡ map (operand_of (widths l.values) (words l.values)) (take l.arg-index l.arg-items);
 }

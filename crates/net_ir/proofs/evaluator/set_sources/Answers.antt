@@ -18,4 +18,4 @@ returns-clause-sources c =
 
 pub returns-clause-widths : goal.returns-clause-widths
 returns-clause-widths c =
-    ap widths (returns-clause-sources c) ∙ sources_widths c.args.vars.now c.args.inputs.now c.requires.vars.each c.requires.inputs
+    ap widths (returns-clause-sources c) ∙ sources_widths c.args.vars.now c.args.inputs.now c.requires.vars c.requires.inputs
