@@ -47,7 +47,7 @@ digit_more word zero d text after all some is wrote so_far = absurd (omega arith
 digit_more word (suc place) d text after all some is wrote so_far =
     let back : suc place - 1 ≡ place = omega arith in
     let digit : d ≡ hex_digit (word / 2 ^ (4 * place) % 16) =
-      is ∙ ap (λ k. hex_digit (bit_and (word / 2 ^ (4 * k)) 15)) back ∙ ap hex_digit (and_mask (word / 2 ^ (4 * place)) 4) in
+    is ∙ ap (λ k. hex_digit (bit_and (word / 2 ^ (4 * k)) 15)) back ∙ ap hex_digit (and_mask (word / 2 ^ (4 * place)) 4) in
     ap (λ k. after ++ hex_digits k word) back
     ∙ ap (λ xs. xs ++ hex_digits place word) wrote
     ∙ append_assoc text (d ∷ []) (hex_digits place word)

@@ -33,8 +33,8 @@ CutShort files words out_before out_after = (outcome : Outcome) → IsOutcome fi
 abbrev pub CutMessage : Files → List (List ℕ) → Type 0 → Type 0 → Option (List ℕ) → Option (List ℕ) → Type 0
 CutMessage files words write_failed read_failed before after =
     (outcome : Outcome) → IsOutcome files words outcome →
-      (AddedFront before after outcome.err ⊎ (write_failed × AddedFront before after write_fault))
-      ⊎ ((read_failed × AddedFront before after read_fault) ⊎ AddedFront before after no_memory)
+    (AddedFront before after outcome.err ⊎ (write_failed × AddedFront before after write_fault))
+    ⊎ ((read_failed × AddedFront before after read_fault) ⊎ AddedFront before after no_memory)
 
 -- each outcome was given, or memory ran out
 abbrev pub Completed : Files → List (List ℕ) → ℕ → Option (List ℕ) → Option (List ℕ) → Option (List ℕ) → Option (List ℕ) → Type 0

@@ -22,7 +22,11 @@ fn digit(value: u8) -> u8
     requires { value ≤ 15 }
     ensures { result ≡ hex_digit value }
 {
-    if value < 10 { b'0' + value } else { b'a' - 10 + value }
+    if value < 10 {
+        b'0' + value
+    } else {
+        b'a' - 10 + value
+    }
 }
 
 /// Adds a value with all the hexadecimal digits of its width.
