@@ -3,3 +3,4 @@ pub mod Naming
 pub mod Binding
 pub mod Plain
 pub mod Elaborated
+pub mod Few
