@@ -1,5 +1,5 @@
 -- counts of faults
-use Rattle.std.specs.Prelude.{ℕ, ◌+◌, ◌-◌, ◌^◌, ◌≤◌, ◌==◌, min, List, if◌then◌else◌}
+use Rattle.std.specs.Prelude.{ℕ, ◌+◌, ◌-◌, ◌^◌, ◌<◌, ◌≤◌, ◌==◌, Contains, min, List, if◌then◌else◌}
 use Rattle.std.specs.List.{list_any}
 use Rattle.std.proofs.Common.{zero, suc, arith}
 
@@ -10,6 +10,14 @@ Rose before now = min (before + 1) (2 ^ 64 - 1) ≤ now
 -- a number of faults as a count has it: it stops at the greatest u64
 abbrev pub count_of : ℕ → ℕ
 count_of faults = min faults (2 ^ 64 - 1)
+
+-- how many calls there were after one more; those past the greatest u64 have no number and aren't counted
+abbrev pub next_call : ℕ → ℕ
+next_call calls = count_of (calls + 1)
+
+-- the call after so many has a number, and that is among those that are to fail
+abbrev pub IsListed : List ℕ → ℕ → Type 0
+IsListed fail calls = (calls < 2 ^ 64 - 1) × Contains fail (calls + 1)
 
 -- of the first n calls, numbered from 1, how many are among those that are to fail
 unfoldable pub listed_faults : List ℕ → ℕ → ℕ

@@ -1,5 +1,9 @@
 -- bytes that the outside holds, where it tells them: `None` tells nothing
-use Rattle.std.specs.Prelude.{◌≡◌, ℕ, ◌<◌, ◌≤◌, List, [], ◌++◌, length, take, drop, Option, None, Some}
+use Rattle.std.specs.Prelude.{◌≡◌, ℕ, ◌<◌, ◌≤◌, List, [], ◌++◌, length, take, drop, min, Option, None, Some}
+use Rattle.std.proofs.Common.{refl, ap, sym, subst, ◌∙◌, ◌+◌, append_assoc, arith}
+use Rattle.std.proofs.lemmas.List.{append-nil}
+use Rattle.std.proofs.lemmas.Grind.{common_steps}
+use Rattle.std.proofs.Math.Seq.{take-append-add, take-length}
 
 -- exactly these bytes were added at the end; what wasn't told stays untold
 abbrev pub Added : Option (List ℕ) → Option (List ℕ) → List ℕ → Type 0
@@ -9,6 +13,35 @@ Added (Some old) after bytes = after ≡ Some (old ++ bytes)
 -- a front of these bytes was added at the end, all of them or none being a front too
 abbrev pub AddedFront : Option (List ℕ) → Option (List ℕ) → List ℕ → Type 0
 AddedFront before after bytes = (n : ℕ) × Added before after (take n bytes)
+
+-- adding nothing leaves what is told
+pub added_nothing : (told : Option (List ℕ)) → Added told told []
+added_nothing None = refl
+added_nothing (Some old) = ap Some (sym (append-nil old))
+
+-- two additions in a row are one
+pub added_both : (a b c : Option (List ℕ)) (xs ys : List ℕ) → Added a b xs → Added b c ys → Added a c (xs ++ ys)
+added_both None b c xs ys p q = subst (λ m. Added m c ys) p q
+added_both (Some old) b c xs ys p q =
+    let r : c ≡ Some ((old ++ xs) ++ ys) = subst (λ m. Added m c ys) p q in
+    r ∙ ap Some (append_assoc old xs ys)
+
+-- the whole is a front
+pub added_front : (a b : Option (List ℕ)) (xs : List ℕ) → Added a b xs → AddedFront a b xs
+added_front a b xs p = (length xs, subst (λ (ys : List ℕ). Added a b ys) (sym (take-length xs)) p)
+
+-- some bytes, and then a front of others, are a front of both
+pub added_front_after : (a b c : Option (List ℕ)) (xs ys : List ℕ) → Added a b xs → AddedFront b c ys → AddedFront a c (xs ++ ys)
+added_front_after a b c xs ys p (n, q) =
+    (length xs + n, subst (λ (zs : List ℕ). Added a c zs) (sym (take-append-add xs ys n)) (added_both a b c xs (take n ys) p q))
+
+take_of_more : (n : ℕ) (xs ys : List ℕ) → take (min n (length xs)) (xs ++ ys) ≡ take n xs
+take_of_more n xs ys = grind (arith, common_steps)
+
+-- a front is a front of more bytes too
+pub added_front_of_more : (a b : Option (List ℕ)) (xs ys : List ℕ) → AddedFront a b xs → AddedFront a b (xs ++ ys)
+added_front_of_more a b xs ys (n, p) =
+    (min n (length xs), subst (λ (zs : List ℕ). Added a b zs) (sym (take_of_more n xs ys)) p)
 
 -- the first n bytes of `rest` stand at the front of the buffer; none do only where `rest` is at its end or the buffer has no room
 pub record IsNext (rest buffer : List ℕ) (n : ℕ) : Type 0 where

@@ -5,6 +5,7 @@ ghost use Rattle.io_edge.specs.Told.{IsNext};
 pub fn copy_next(bytes: &[u8], at: usize, most: usize, into: &mut [u8]) -> usize
     requires { 0 < most }
     ensures within { result ≤ length into.old }
+    ensures at_most { result ≤ most }
     ensures next { IsNext (drop at bytes.now) into.new result }
 {
     let rest = &bytes[at.min(bytes.len())..];

@@ -2,13 +2,14 @@ ghost use Rattle.std.specs.Prelude.{◌≤◌, length, IfOk, None};
 ghost use Rattle.io_edge.specs.Fault.{count_of, count_of-stops};
 ghost use Rattle.io_edge.specs.File.{IsAtMost};
 
+use crate::counting::counted;
 use crate::folder::{Failed, Folder, Got};
 use std::io::{ErrorKind, Read, Seek, SeekFrom};
 use std::rt::Files;
 use std::{fs, io};
 
 /// The files of the system. A name is a path, relative to the current directory. It tells no content; its two
-/// counts are 0 where it is made.
+/// counts are 0 where it is made. Each read opens its file anew.
 #[derive(Drop)]
 pub struct DiskFolder<'r, R> {
     pub rt: &'r R,
@@ -53,22 +54,10 @@ impl<R: Files> Folder for DiskFolder<'_, R> {
     ghost counts_stop = { λ folder. (count_of-stops _, count_of-stops _) };
 
     fn read_at(&mut self, name: &str, at: u64, into: &mut [u8]) -> Result<Got, Failed> {
-        match read_file(self.rt, name, at, into) {
-            Ok(got) => Ok(got),
-            Err(_) => {
-                self.read_faults = self.read_faults.saturating_add(1);
-                Err(Failed)
-            }
-        }
+        counted(read_file(self.rt, name, at, into), &mut self.read_faults)
     }
 
     fn write_whole(&mut self, name: &str, bytes: &[u8]) -> Result<(), Failed> {
-        match fs::write(self.rt, name, bytes) {
-            Ok(()) => Ok(()),
-            Err(_) => {
-                self.write_faults = self.write_faults.saturating_add(1);
-                Err(Failed)
-            }
-        }
+        counted(fs::write(self.rt, name, bytes), &mut self.write_faults)
     }
 }

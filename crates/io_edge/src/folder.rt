@@ -1,10 +1,23 @@
-ghost use Rattle.std.specs.Prelude.{◌≡◌, ℕ, ◌-◌, ◌^◌, ◌≤◌, List, length, Option, IfOk, OnOk, OnErr};
+ghost use Rattle.std.specs.Prelude.{◌≡◌, ℕ, ◌-◌, ◌^◌, ◌≤◌, List, codes, length, Option, Some, IfOk, OnOk, OnErr};
 ghost use Rattle.io_edge.specs.Fault.{Rose};
 ghost use Rattle.io_edge.specs.File.{Files, IsAtMost, IsAnswer, Wrote, ChangedOnly, AreShort};
+
+use std::error::Error;
+use std::fmt;
 
 /// A call of the outside did not succeed, and the count of such faults rose.
 #[derive(Clone, Copy, Debug, PartialEq, Eq)]
 pub struct Failed;
+
+impl fmt::Display for Failed {
+    ghost output = { λ _. Some (codes "a call of the outside failed") };
+
+    fn fmt<W: fmt::Write>(&self, f: &mut fmt::Formatter<W>) -> fmt::Result {
+        write!(f, "a call of the outside failed")
+    }
+}
+
+impl Error for Failed {}
 
 /// What a read of a name found.
 #[derive(Clone, Copy, Debug, PartialEq, Eq)]

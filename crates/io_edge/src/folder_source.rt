@@ -21,7 +21,8 @@ impl<D: Folder> Source for FolderSource<'_, '_, D> {
 
     ghost faults = { λ source. D.read_faults source.folder.now };
 
-    ghost same_ground = { λ before after. (after.name.now ≡ before.name.now) × SameFolder D.content D.read_faults D.write_faults before.folder after.folder };
+    ghost same_ground = { λ before after. (after.name.now ≡ before.name.now)
+        × SameFolder D.content D.read_faults D.write_faults before.folder after.folder };
 
     ghost count_stops = { λ source. (D.counts_stop source.folder.now).0 };
 

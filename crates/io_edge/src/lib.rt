@@ -5,6 +5,7 @@
 
 mod calls;
 mod copying;
+mod counting;
 mod disk_folder;
 mod folder;
 mod folder_source;

@@ -1,8 +1,9 @@
-ghost use Rattle.std.specs.Prelude.{◌≡◌, ◌+◌, ◌<◌, ◌==◌, Some, OnOk, OnErr};
+ghost use Rattle.std.specs.Prelude.{◌≡◌, ◌+◌, ◌<◌, ◌≤◌, ◌↔◌, ◌==◌, if◌then◌else◌, length, is_ok, Some, IsErr, IfOk, OnOk, OnErr};
 ghost use Rattle.std.specs.List.{position};
 ghost use Rattle.std.specs.FinMap.{insert};
 ghost use Rattle.std.specs.Cmp.Lexicographic.{pointwise};
-ghost use Rattle.io_edge.specs.Fault.{count_of, count_of-stops, listed_faults};
+ghost use Rattle.io_edge.specs.File.{IsAtMost, IsAnswer, Wrote, ChangedOnly};
+ghost use Rattle.io_edge.specs.Fault.{Rose, IsListed, count_of, count_of-stops, listed_faults, next_call};
 ghost use Rattle.io_edge.specs.Entries.{files_of, all_short};
 
 use crate::calls::is_to_fail;
@@ -52,13 +53,30 @@ impl Folder for MemFolder {
 
     ghost read_faults = { λ folder. count_of (listed_faults folder.fail_reads.items folder.reads) };
 
-    ghost write_faults = { λ folder. count_of (listed_faults folder.fail_writes.items folder.writes + folder.short) };
+    ghost write_faults = { λ folder. count_of
+        (listed_faults folder.fail_writes.items folder.writes + folder.short) };
 
     ghost files_short = { λ folder. all_short folder.files.items };
 
     ghost counts_stop = { λ folder. (count_of-stops _, count_of-stops _) };
 
-    fn read_at(&mut self, name: &str, at: u64, into: &mut [u8]) -> Result<Got, Failed> {
+    fn read_at(&mut self, name: &str, at: u64, into: &mut [u8]) -> Result<Got, Failed>
+        ensures within { IfOk result (λ got. IsAtMost got (length into.old)) }
+        ensures answer { IfOk result (λ got. IsAnswer
+            (⟦<MemFolder as Folder>⟧.content self.old) name.now at into.new got) }
+        ensures unchanged { ⟦<MemFolder as Folder>⟧.content self.new
+            ≡ ⟦<MemFolder as Folder>⟧.content self.old }
+        ensures failed { OnErr result (Rose
+            (⟦<MemFolder as Folder>⟧.read_faults self.old) (⟦<MemFolder as Folder>⟧.read_faults self.new)) }
+        ensures later { ⟦<MemFolder as Folder>⟧.read_faults self.old ≤ ⟦<MemFolder as Folder>⟧.read_faults self.new }
+        ensures no_write { ⟦<MemFolder as Folder>⟧.write_faults self.new
+            ≡ ⟦<MemFolder as Folder>⟧.write_faults self.old }
+
+        // Exactly the listed reads fail, and each read counts.
+        ensures listed { IsErr result ↔ IsListed self.old.fail_reads.items self.old.reads }
+        ensures most { IfOk result (λ got. IsAtMost got self.old.most) }
+        ensures after { self.new ≡ record self.old { reads = next_call self.old.reads } }
+    {
         if is_to_fail(&mut self.reads, &self.fail_reads) {
             return Err(Failed);
         }
@@ -71,7 +89,26 @@ impl Folder for MemFolder {
         }
     }
 
-    fn write_whole(&mut self, name: &str, bytes: &[u8]) -> Result<(), Failed> {
+    fn write_whole(&mut self, name: &str, bytes: &[u8]) -> Result<(), Failed>
+        ensures written { OnOk result (Wrote (⟦<MemFolder as Folder>⟧.content self.old)
+            (⟦<MemFolder as Folder>⟧.content self.new) name.now bytes.now) }
+        ensures others { OnErr result (ChangedOnly
+            (⟦<MemFolder as Folder>⟧.content self.old) (⟦<MemFolder as Folder>⟧.content self.new) name.now) }
+        ensures failed { OnErr result (Rose
+            (⟦<MemFolder as Folder>⟧.write_faults self.old) (⟦<MemFolder as Folder>⟧.write_faults self.new)) }
+        ensures later { ⟦<MemFolder as Folder>⟧.write_faults self.old ≤ ⟦<MemFolder as Folder>⟧.write_faults self.new }
+        ensures no_read { ⟦<MemFolder as Folder>⟧.read_faults self.new
+            ≡ ⟦<MemFolder as Folder>⟧.read_faults self.old }
+
+        // The listed writes fail, and else only those for which no memory is found. Each write counts, and one that
+        // fails changes no file.
+        ensures listed { IsListed self.old.fail_writes.items self.old.writes
+            → IsErr result × (self.new.short ≡ self.old.short) }
+        ensures memory { ¬ IsListed self.old.fail_writes.items self.old.writes
+            → self.new.short ≡ (if is_ok result then self.old.short else count_of (self.old.short + 1)) }
+        ensures kept { OnErr result (self.new.files.items ≡ self.old.files.items) }
+        ensures after { self.new ≡ record self.old { files = self.new.files; writes = next_call self.old.writes; short = self.new.short } }
+    {
         if is_to_fail(&mut self.writes, &self.fail_writes) {
             return Err(Failed);
         }

@@ -1,6 +1,7 @@
-ghost use Rattle.std.specs.Prelude.{◌≡◌, ◌<◌, drop, Some};
+ghost use Rattle.std.specs.Prelude.{◌≡◌, ◌<◌, ◌≤◌, ◌↔◌, length, drop, Some, IsErr, IfOk, OnErr};
 ghost use Rattle.std.proofs.Common.{refl, ◌∙◌};
-ghost use Rattle.io_edge.specs.Fault.{count_of, count_of-stops, listed_faults};
+ghost use Rattle.io_edge.specs.Told.{TookNext};
+ghost use Rattle.io_edge.specs.Fault.{Rose, IsListed, count_of, count_of-stops, listed_faults, next_call};
 
 use crate::calls::is_to_fail;
 use crate::copying::copy_next;
@@ -24,7 +25,8 @@ impl Source for MemSource {
 
     ghost faults = { λ source. count_of (listed_faults source.fail.items source.calls) };
 
-    ghost same_ground = { λ before after. (after.bytes.items ≡ before.bytes.items) × (after.fail.items ≡ before.fail.items) };
+    ghost same_ground = { λ before after. (after.bytes.items ≡ before.bytes.items)
+        × (after.fail.items ≡ before.fail.items) };
 
     ghost count_stops = { λ source. count_of-stops _ };
 
@@ -32,7 +34,22 @@ impl Source for MemSource {
 
     ghost ground_after = { λ a b c p q. (q.0 ∙ p.0, q.1 ∙ p.1) };
 
-    fn read(&mut self, into: &mut [u8]) -> Result<usize, Failed> {
+    fn read(&mut self, into: &mut [u8]) -> Result<usize, Failed>
+        ensures within { IfOk result (λ n. n ≤ length into.old) }
+        ensures next { IfOk result (TookNext
+            (⟦<MemSource as Source>⟧.left self.old) (⟦<MemSource as Source>⟧.left self.new) into.new) }
+        ensures kept { OnErr result (⟦<MemSource as Source>⟧.left self.new
+            ≡ ⟦<MemSource as Source>⟧.left self.old) }
+        ensures ground { ⟦<MemSource as Source>⟧.same_ground self.old self.new }
+        ensures failed { OnErr result (Rose
+            (⟦<MemSource as Source>⟧.faults self.old) (⟦<MemSource as Source>⟧.faults self.new)) }
+        ensures later { ⟦<MemSource as Source>⟧.faults self.old ≤ ⟦<MemSource as Source>⟧.faults self.new }
+
+        // Exactly the listed calls fail, and each call counts.
+        ensures listed { IsErr result ↔ IsListed self.old.fail.items self.old.calls }
+        ensures most { IfOk result (λ n. n ≤ self.old.most) }
+        ensures after { self.new ≡ record self.old { at = self.new.at; calls = next_call self.old.calls } }
+    {
         if is_to_fail(&mut self.calls, &self.fail) {
             return Err(Failed);
         }

@@ -1,6 +1,7 @@
-ghost use Rattle.std.specs.Prelude.{◌≤◌, length, IfOk, None};
+ghost use Rattle.std.specs.Prelude.{◌<◌, ◌≤◌, length, IfOk, None};
 ghost use Rattle.io_edge.specs.Fault.{count_of, count_of-stops};
 
+use crate::counting::counted;
 use crate::folder::Failed;
 use crate::sink::Sink;
 use std::io;
@@ -16,10 +17,12 @@ pub struct StreamSink<W> {
 
 // Writes once, where no signal interrupts the write.
 fn write_some(to: &mut impl Write, piece: &[u8]) -> io::Result<usize>
-    ensures { IfOk result (λ n. n ≤ length piece.now) }
+    ensures within { IfOk result (λ n. n ≤ length piece.now) }
+    ensures some { IfOk result (λ n. 0 < length piece.now → 0 < n) }
 {
     for _ in 0..u64::MAX {
         match to.write(piece) {
+            Ok(0) if !piece.is_empty() => return Err(io::Error::from(ErrorKind::WriteZero)),
             Err(error) if error.kind() == ErrorKind::Interrupted => {}
             answer => return answer,
         }
@@ -38,12 +41,6 @@ impl<W: Write> Sink for StreamSink<W> {
         if piece.is_empty() {
             return Ok(0);
         }
-        match write_some(&mut self.to, piece) {
-            Ok(n) if n > 0 => Ok(n),
-            _ => {
-                self.faults = self.faults.saturating_add(1);
-                Err(Failed)
-            }
-        }
+        counted(write_some(&mut self.to, piece), &mut self.faults)
     }
 }

@@ -151,6 +151,8 @@ fn source_in_memory_gives_pieces(rt: HostRuntime) -> Result<(), Fail> {
     assert_eq!(rt; source.read(&mut buffer), Ok(2));
     assert!(rt; buffer.starts_with(b"ll"));
     assert_eq!(rt; source.read(&mut buffer), Err(Failed));
+    let fault = format!(in rt.alloc(); "{Failed}")?;
+    assert_eq!(rt; fault.as_str(), "a call of the outside failed");
     assert_eq!(rt; source.read(&mut buffer), Ok(1));
     assert_eq!(rt; buffer[0], b'o');
     assert_eq!(rt; source.read(&mut buffer), Ok(0));
