@@ -1,12 +1,12 @@
 -- A module has no more ports than the text that spells it has bytes.
-use Rattle.std.proofs.Common.{◌≡◌, ℕ, ◌+◌, ◌<◌, ◌≤◌, false, true, suc, List, [], ◌∷◌, ◌++◌, length, refl, sym, ◌∙◌, ap, subst, arith, inl, inr, length-append, ◌⊎◌, ⊎_elim}
+use Rattle.std.proofs.Common.{◌≡◌, ℕ, ◌+◌, ◌≤◌, suc, List, [], ◌∷◌, ◌++◌, length, refl, ap, arith, inl, inr, length-append}
 use Rattle.std.specs.Prelude.{codes, IsTrue}
 use Rattle.std.specs.List.{flat_map}
 use Rattle.lib_create.specs.Spelling.{is_name}
 use Rattle.lib_create.specs.declared.token.Token.{Token}
 use Rattle.lib_create.specs.declared.tree.PortDeclaration.{PortDeclaration}
 use Rattle.lib_create.specs.declared.tree.Module.{Module}
-use Rattle.lib_create.specs.Grammar.{EndsName, IsSingle, IsTokenText, IsCut, Slot, Text, Identifier, Fill, port_slots, port_list_slots, assignment_slots, module_slots, Spells}
+use Rattle.lib_create.specs.Grammar.{IsSingle, IsTokenText, IsCut, Slot, Text, Fill, port_slots, port_list_slots, assignment_slots, module_slots, Spells}
 
 -- no token is empty
 name_long : (text : List ℕ) → IsTrue (is_name text) → 1 ≤ length text

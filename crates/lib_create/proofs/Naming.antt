@@ -1,13 +1,13 @@
 -- The numbers of ports, and names that differ.
-use Rattle.std.proofs.Common.{◌≡◌, ℕ, ◌+◌, ◌<◌, ◌≤◌, suc, zero, Bool, true, false, cond, ◌||◌, List, [], ◌∷◌, ◌++◌, length, map, take, get_or, refl, sym, ◌∙◌, ap, subst, arith, add-zero, ltb, take_all}
+use Rattle.std.proofs.Common.{◌≡◌, ℕ, ◌+◌, ◌<◌, suc, Bool, true, false, cond, ◌||◌, List, [], ◌∷◌, ◌++◌, length, take, get_or, refl, sym, ◌∙◌, ap, subst, arith, add-zero}
 use Rattle.std.specs.Prelude.{Option, None, Some}
-use Rattle.std.specs.Option.{option_or, IsSome, is_some}
-use Rattle.std.specs.List.{position, position_or_len, position_from, IsDistinct, list_any}
+use Rattle.std.specs.Option.{option_or, is_some}
+use Rattle.std.specs.List.{position_from, IsDistinct, list_any}
 use Rattle.std.specs.Map.{update}
 use Rattle.std.specs.BTreeMap.{BTreeMap}
 use Rattle.std.specs.Str.{bytes_eq}
 use Rattle.std.specs.Cmp.Lexicographic.{nat_list_eq_equiv}
-use Rattle.std.proofs.lemmas.List.{length-take-le, get_or-take, get_or-map, take_more, map_more, length-map, map-append}
+use Rattle.std.proofs.lemmas.List.{length-take-le, get_or-take, get_or-map, take_more, length-map, map-append}
 use Rattle.std.proofs.lemmas.List.Quantifiers.{position-Some}
 use Rattle.std.proofs.lemmas.Iterator.Adapters.{position_from-zero}
 use Rattle.std.proofs.lemmas.Map.Keys.{IsDistinct-push, apart_from_distinct}

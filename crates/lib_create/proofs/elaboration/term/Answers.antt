@@ -1,5 +1,5 @@
 use Rattle.std.proofs.Common.{◌≡◌, List, [], ◌∷◌, ◌++◌, sym, ◌∙◌, ap, subst}
-use Rattle.std.specs.Prelude.{Option, None, Some}
+use Rattle.std.specs.Prelude.{Option, Some}
 use Rattle.std.specs.Option.{IsSome}
 use Rattle.bit_ops.specs.declared.operation.Op.{Op}
 use Rattle.net_ir.specs.declared.term.Term.{Term, Apply}
