@@ -51,8 +51,7 @@ legal_of m top name vars drivers ordered is named top_is taken decides =
     let v = is.vars_are in
     let d = is.drivers_are in
     let plain : AllByRecursion (SparesInputs vars) drivers × AreOrdered (widths_of vars) drivers = decides.0 taken in
-    let spec : List ℕ → List Var → List Driver → Spec = λ n v d. record { «module» = n; place = m.name.place; vars = v; drivers = d } in
-    (
+    let spec : List ℕ → List Var → List Driver → Spec = λ n v d. record { «module» = n; place = m.name.place; vars = v; drivers = d } in (
       ap (λ n. spec n vars drivers) named ∙ ap (λ v. spec m.name.text v drivers) v ∙ ap (λ d. spec m.name.text (map var_of m.ports) d) d,
       record {
         named = top_is;

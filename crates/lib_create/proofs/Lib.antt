@@ -16,3 +16,4 @@ pub mod Binding
 pub mod Plain
 pub mod Elaborated
 pub mod Begun
+pub mod Few

@@ -1,13 +1,13 @@
 -- The numbers of ports, and names that differ.
-use Rattle.std.proofs.Common.{◌≡◌, ℕ, ◌+◌, ◌<◌, ◌≤◌, suc, zero, Bool, true, false, cond, ◌||◌, List, [], ◌∷◌, ◌++◌, length, map, take, get_or, refl, sym, ◌∙◌, ap, subst, arith, add-zero, ltb, take_all}
+use Rattle.std.proofs.Common.{◌≡◌, ℕ, ◌+◌, ◌<◌, suc, Bool, true, false, cond, ◌||◌, List, [], ◌∷◌, ◌++◌, length, take, get_or, refl, sym, ◌∙◌, ap, subst, arith, add-zero}
 use Rattle.std.specs.Prelude.{Option, None, Some}
-use Rattle.std.specs.Option.{option_or, IsSome, is_some}
-use Rattle.std.specs.List.{position, position_or_len, position_from, IsDistinct, list_any}
+use Rattle.std.specs.Option.{option_or, is_some}
+use Rattle.std.specs.List.{position_from, IsDistinct, list_any}
 use Rattle.std.specs.Map.{update}
 use Rattle.std.specs.BTreeMap.{BTreeMap}
 use Rattle.std.specs.Str.{bytes_eq}
 use Rattle.std.specs.Cmp.Lexicographic.{nat_list_eq_equiv}
-use Rattle.std.proofs.lemmas.List.{length-take-le, get_or-take, get_or-map, take_more, map_more, length-map, map-append}
+use Rattle.std.proofs.lemmas.List.{length-take-le, get_or-take, get_or-map, take_more, length-map, map-append}
 use Rattle.std.proofs.lemmas.List.Quantifiers.{position-Some}
 use Rattle.std.proofs.lemmas.Iterator.Adapters.{position_from-zero}
 use Rattle.std.proofs.lemmas.Map.Keys.{IsDistinct-push, apart_from_distinct}
@@ -55,11 +55,13 @@ numbers_more ports i p old new within is are fresh updates name =
     updates name ∙ by_test (bytes_eq p.name.text name) refl ∙ sym stands where
       long : length (take i ports) ≡ i
       long = length-take-le i ports (omega arith)
+
       stands : number_of (take (i + 1) ports) name ≡ option_or (number_of (take i ports) name) (cond (bytes_eq p.name.text name) (Some i) None)
       stands =
           ap (λ ps. number_of ps name) (ports_more ports i p within is)
           ∙ number_of_more (take i ports) p name
           ∙ ap (λ n. option_or (number_of (take i ports) name) (cond (bytes_eq p.name.text name) (Some n) None)) long
+
       by_test : (b : Bool) → bytes_eq p.name.text name ≡ b → cond b (Some i) (number_in old name) ≡ option_or (number_of (take i ports) name) (cond b (Some i) None)
       by_test false other = are name ∙ sym (or_none (number_of (take i ports) name))
       by_test true same =
@@ -82,7 +84,7 @@ none_named (p ∷ ports) i name none =
 pub distinct_more : (ports : List PortDeclaration) (i : ℕ) (p : PortDeclaration) → i < length ports → p ≡ get_or ports i p → IsDistinct bytes_eq (port_names (take i ports)) → number_of (take i ports) p.name.text ≡ None → IsDistinct bytes_eq (port_names (take (i + 1) ports))
 distinct_more ports i p within is distinct fresh =
     let whole : port_names (take (i + 1) ports) ≡ port_names (take i ports) ++ p.name.text ∷ [] =
-        ap port_names (ports_more ports i p within is) ∙ map-append (λ (q : PortDeclaration). q.name.text) (take i ports) (p ∷ []) in
+    ap port_names (ports_more ports i p within is) ∙ map-append (λ (q : PortDeclaration). q.name.text) (take i ports) (p ∷ []) in
     subst (IsDistinct bytes_eq) (sym whole)
     (IsDistinct-push nat_list_eq_equiv (port_names (take i ports)) p.name.text distinct
     (none_named (take i ports) 0 p.name.text (sym (number_from (take i ports) p.name.text) ∙ fresh)))

@@ -1,25 +1,22 @@
 -- The design of a module whose names are declared: its assignments are whole and lawful.
-use Rattle.std.proofs.Common.{◌≡◌, ℕ, ◌<◌, ◌≤◌, Bool, true, false, zero, suc, List, [], ◌∷◌, ◌++◌, length, map, get_or, refl, sym, ◌∙◌, ap, subst, arith, lit≤}
+use Rattle.std.proofs.Common.{◌≡◌, ℕ, ◌<◌, Bool, true, false, zero, suc, List, [], ◌∷◌, length, map, refl, sym, ◌∙◌, ap, subst, arith, lit≤}
 use Rattle.std.specs.Prelude.{Option, None, Some, slice_index, unwrap_or}
-use Rattle.std.specs.Option.{IsSome, is_some}
-use Rattle.std.specs.List.{AllByRecursion, position}
+use Rattle.std.specs.Option.{IsSome}
+use Rattle.std.specs.List.{AllByRecursion}
 use Rattle.std.specs.Str.{bytes_eq}
-use Rattle.std.proofs.lemmas.List.{length-map, get_or-map}
 use Rattle.std.proofs.lemmas.List.Quantifiers.{position-Some}
 use Rattle.bit_ops.specs.Width.{IsWidth, WidthsFit}
-use Rattle.bit_ops.specs.Rows.{value_of}
 use Rattle.bit_ops.specs.declared.operation.Op.{Op}
 use Rattle.bit_ops.specs.declared.operation.Op.TheVariants as op
 use Rattle.sv_base.specs.declared.refusal.Place.{Place}
 use Rattle.net_ir.specs.declared.term.Term.{Term, Read, Apply}
 use Rattle.net_ir.specs.declared.term.Term.TheOpen as layer
 use Rattle.net_ir.specs.declared.term.Term.TheVariants.{outs-Read, outs-Apply, rolls-Read, rolls-Apply}
-use Rattle.net_ir.specs.declared.term.Term.TheFolds.{map-Term, every-Term, every_made-Term, fold_out-Term}
-use Rattle.net_ir.specs.declared.design.Var.{Var}
+use Rattle.net_ir.specs.declared.term.Term.TheFolds.{map-Term, every_made-Term, fold_out-Term}
 use Rattle.net_ir.specs.declared.design.Target.TheVariants.{Of}
 use Rattle.net_ir.specs.declared.design.Driver.TheVariants as driver
 use Rattle.net_ir.specs.Value.{widths_of, operand_of, operand_of_layer, size}
-use Rattle.net_ir.specs.Plain.{IsLawfulLayer, IsLawful, IsWhole, IsWholeAssign, HaveInitialValues}
+use Rattle.net_ir.specs.Plain.{IsLawfulLayer, IsLawful, IsWhole, HaveInitialValues}
 use Rattle.lib_create.specs.declared.token.Token.{Token}
 use Rattle.lib_create.specs.declared.tree.Operator.{Operator}
 use Rattle.lib_create.specs.declared.tree.Operator.TheVariants.{And, Or, Xor}
@@ -28,7 +25,7 @@ use Rattle.lib_create.specs.declared.tree.Expression.{Expression}
 use Rattle.lib_create.specs.declared.tree.Expression.TheVariants.{Single, Pair}
 use Rattle.lib_create.specs.declared.tree.PortDeclaration.{PortDeclaration}
 use Rattle.lib_create.specs.declared.tree.Assignment.{Assignment}
-use Rattle.lib_create.specs.Design.{var_of, number_of, read_of, negated_if, operand_term, operation_of, term_of, driver_of, operand_names, expression_names, assignment_names, IsKnownTo}
+use Rattle.lib_create.specs.Design.{var_of, number_of, read_of, negated_if, operand_term, operation_of, term_of, driver_of, operand_names, expression_names, IsKnownTo}
 use Rattle.lib_create.specs.Elaborating.{AreDeclared}
 use Rattle.lib_create.proofs.Binding.{all_front, all_back}
 

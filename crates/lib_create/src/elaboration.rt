@@ -63,10 +63,7 @@ impl Scope<'_> {
 }
 
 /// The scope of ports, where no two of them have one name.
-fn declare<'a>(
-    alloc: Global,
-    ports: &'a [PortDeclaration],
-) -> Result<Option<Scope<'a>>, AllocError>
+fn declare<'a>(alloc: Global, ports: &'a [PortDeclaration]) -> Result<Option<Scope<'a>>, AllocError>
     requires few { length ports.now < 2 ^ 32 }
     ensures some { IfOk result (λ scope. IfSome scope (λ s. (s.ports.now ≡ ports.now) × IsDistinct bytes_eq (port_names ports.now))) }
     ensures none { IfOk result (λ scope. IfNone scope (IsDistinct bytes_eq (port_names ports.now) → ⊥)) }
@@ -195,11 +192,7 @@ fn term(
 }
 
 /// The term of an operand, where its name is declared.
-fn operand(
-    alloc: Global,
-    scope: &Scope<'_>,
-    operand: &Operand,
-) -> Result<Option<Term>, AllocError>
+fn operand(alloc: Global, scope: &Scope<'_>, operand: &Operand) -> Result<Option<Term>, AllocError>
     ensures { IfOk result (λ term. Answers term (AreDeclared scope.now.ports.now (operand_names operand.now)) (operand_term scope.now.ports.now operand.now)) }
 {
     let Some(var) = scope.number(&operand.name.text) else {
@@ -237,5 +230,156 @@ fn operation(operator: Operator) -> Op
         Operator::And => Op::And,
         Operator::Or => Op::Or,
         Operator::Xor => Op::Xor,
+    }
+}
+
+#[cfg(test)]
+mod tests {
+    use super::*;
+    use std::test::Fail;
+    use sv_base::Place;
+
+    /// A port: its direction and its name.
+    type Port<'a> = (Direction, &'a str);
+
+    /// An assignment: its target, an operand, and an operator with a second operand. A lone operand is negated.
+    type Row<'a> = (&'a str, &'a str, Option<(Operator, &'a str)>);
+
+    fn token(alloc: Global, text: &str) -> Result<Token, AllocError> {
+        Ok(Token {
+            text: Name::of(alloc, text.as_bytes())?,
+            place: Place { file: 1, line: 1 },
+        })
+    }
+
+    fn assignment(alloc: Global, row: &Row<'_>) -> Result<Assignment, AllocError> {
+        let (target, first, rest) = *row;
+        let first = Operand {
+            negated: rest.is_none(),
+            name: token(alloc, first)?,
+        };
+        let value = match rest {
+            None => Expression::Single(first),
+            Some((operator, second)) => Expression::Pair(
+                first,
+                operator,
+                Operand {
+                    negated: false,
+                    name: token(alloc, second)?,
+                },
+            ),
+        };
+        Ok(Assignment {
+            target: token(alloc, target)?,
+            value,
+        })
+    }
+
+    fn module(alloc: Global, ports: &[Port<'_>], rows: &[Row<'_>]) -> Result<Module, AllocError> {
+        let mut declarations = Vec::new(alloc);
+        for (direction, name) in ports {
+            declarations.push(PortDeclaration {
+                direction: *direction,
+                name: token(alloc, name)?,
+            })?;
+        }
+        let mut assignments = Vec::new(alloc);
+        for row in rows {
+            assignments.push(assignment(alloc, row)?)?;
+        }
+        Ok(Module {
+            name: token(alloc, "top")?,
+            ports: Sequence::from_vec(declarations),
+            assignments: Sequence::from_vec(assignments),
+        })
+    }
+
+    fn design(
+        alloc: Global,
+        top: &str,
+        ports: &[Port<'_>],
+        rows: &[Row<'_>],
+    ) -> Result<Option<Spec>, Fail> {
+        let tree = module(alloc, ports, rows)?;
+        if tree.ports.len() > 100 {
+            return Err("too many ports")?;
+        }
+        Ok(elaborate(alloc, top.as_bytes(), &tree)?)
+    }
+
+    /// Whether a term is the exclusive or of two variables of one bit.
+    fn is_xor(term: &Term, first: u32, second: u32) -> bool {
+        match term {
+            Term::Apply {
+                op: Op::Xor,
+                width: 1,
+                args,
+                ..
+            } => match args.as_slice() {
+                [Term::Read { var: a, .. }, Term::Read { var: b, .. }] => {
+                    *a == first && *b == second
+                }
+                _ => false,
+            },
+            _ => false,
+        }
+    }
+
+    #[test]
+    fn full_adder_is_a_design(rt: HostRuntime) -> Result<(), Fail> {
+        let ports = [
+            (Direction::In, "a"),
+            (Direction::In, "b"),
+            (Direction::In, "carry_in"),
+            (Direction::Out, "half"),
+            (Direction::Out, "sum"),
+            (Direction::Out, "both"),
+            (Direction::Out, "passed"),
+            (Direction::Out, "carry"),
+        ];
+        let rows = [
+            ("half", "a", Some((Operator::Xor, "b"))),
+            ("sum", "half", Some((Operator::Xor, "carry_in"))),
+            ("both", "a", Some((Operator::And, "b"))),
+            ("passed", "half", Some((Operator::And, "carry_in"))),
+            ("carry", "both", Some((Operator::Or, "passed"))),
+        ];
+        let spec = design(rt.alloc(), "top", &ports, &rows)?.ok_or("no design")?;
+        assert_eq!(rt; spec.vars.len(), 8);
+        assert_eq!(rt; spec.drivers.len(), 5);
+        match spec.drivers.as_slice().get(1).ok_or("no driver")? {
+            Driver::Assign { target, value, .. } => {
+                assert_eq!(rt; target.var(), Some(4));
+                assert!(rt; is_xor(value, 3, 2));
+            }
+        }
+        Ok(())
+    }
+
+    #[test]
+    fn what_is_no_design(rt: HostRuntime) -> Result<(), Fail> {
+        let ports = [
+            (Direction::In, "a"),
+            (Direction::In, "b"),
+            (Direction::Out, "x"),
+            (Direction::Out, "y"),
+        ];
+        let fine = [("x", "a", None), ("y", "x", Some((Operator::And, "b")))];
+        assert!(rt; design(rt.alloc(), "top", &ports, &fine)?.is_some());
+        assert!(rt; design(rt.alloc(), "other", &ports, &fine)?.is_none());
+        let twice = [(Direction::In, "a"), (Direction::Out, "a")];
+        assert!(rt; design(rt.alloc(), "top", &twice, &[])?.is_none());
+        let refused: [&[Row<'_>]; 5] = [
+            // Two drivers, a driven input, an unknown operand, an unknown target, and a read before the driver.
+            &[("x", "a", None), ("x", "b", None)],
+            &[("a", "b", None)],
+            &[("x", "a", Some((Operator::Or, "c")))],
+            &[("z", "a", None)],
+            &[("x", "y", None), ("y", "a", None)],
+        ];
+        for rows in refused {
+            assert!(rt; design(rt.alloc(), "top", &ports, rows)?.is_none());
+        }
+        Ok(())
     }
 }

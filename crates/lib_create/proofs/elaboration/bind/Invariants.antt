@@ -1,4 +1,4 @@
-use Rattle.std.proofs.Common.{map, take}
+use Rattle.std.proofs.Common.{take}
 use Rattle.lib_create.specs.Design.{driver_of, IsKnownTo}
 use Rattle.lib_create.proofs.Binding.{AreBound}
 use Rattle.lib_create.proofs.elaboration.bind.Given as goal

@@ -1,4 +1,4 @@
-use Rattle.std.proofs.Common.{◌∙◌, sym, rules}
+use Rattle.std.proofs.Common.{◌∙◌, rules}
 use Rattle.std.proofs.lemmas.Grind.{common_steps}
 use Rattle.lib_create.proofs.Elaborated.{elaborated, some_at, initial_of, whole_of, legal_of}
 use Rattle.lib_create.proofs.elaboration.elaborate.Goals as goal

@@ -1,5 +1,5 @@
 use Rattle.std.proofs.Common.{◌≡◌, List, [], ◌∷◌, ◌++◌, sym, ◌∙◌, ap, subst}
-use Rattle.std.specs.Prelude.{Option, None, Some}
+use Rattle.std.specs.Prelude.{Option, Some}
 use Rattle.std.specs.Option.{IsSome}
 use Rattle.bit_ops.specs.declared.operation.Op.{Op}
 use Rattle.net_ir.specs.declared.term.Term.{Term, Apply}
@@ -21,8 +21,8 @@ pair_term ports e first o second l r left right op args t is some_left left_is s
     let a = some_answer (AreDeclared ports (operand_names first)) (operand_term ports first) left l some_left left_is in
     let b = some_answer (AreDeclared ports (operand_names second)) (operand_term ports second) right r some_right right_is in
     let whole : t ≡ term_of ports (Pair first o second) =
-        t_is ∙ ap (λ x. Apply x 1 0 args) op_is ∙ ap (λ xs. Apply (operation_of o) 1 0 xs) args_is
-        ∙ ap (λ x. Apply (operation_of o) 1 0 (x ∷ right ∷ [])) a.0 ∙ ap (λ x. Apply (operation_of o) 1 0 (operand_term ports first ∷ x ∷ [])) b.0 in
+    t_is ∙ ap (λ x. Apply x 1 0 args) op_is ∙ ap (λ xs. Apply (operation_of o) 1 0 xs) args_is
+    ∙ ap (λ x. Apply (operation_of o) 1 0 (x ∷ right ∷ [])) a.0 ∙ ap (λ x. Apply (operation_of o) 1 0 (operand_term ports first ∷ x ∷ [])) b.0 in
     let known : AreDeclared ports (expression_names (Pair first o second)) = all_both (λ x. IsSome (number_of ports x)) (operand_names first) (operand_names second) a.1 b.1 in
     let Q : Expression → Type 0 = λ x. (t ≡ term_of ports x) × AreDeclared ports (expression_names x) in
     subst Q (sym is) (whole, known)
