@@ -1,6 +1,9 @@
 -- A trace from its header on.
 use Rattle.std.proofs.Common.{◌≡◌, ℕ, List, [], ◌∷◌, ◌++◌, refl, sym, ◌∙◌, ap, subst, append_assoc, Option, None, Some, inl, inr}
 use Rattle.std.proofs.lemmas.List.{append-nil}
+use Rattle.std.specs.Prelude.{IfSome}
+use Rattle.std.specs.FinMap.{get}
+use Rattle.io_edge.specs.File.{Files}
 use Rattle.io_edge.specs.Told.{Added, AddedFront, added_nothing, added_both, added_front, added_front_after, added_front_of_more}
 use Rattle.net_ir.specs.declared.design.Spec.{Spec}
 use Rattle.net_ir.specs.Run.{State, Step, start, at_levels}
@@ -56,3 +59,17 @@ follow_cut spec (Some bytes) before mid after one began front verdict trace ends
 pub begin_cut : (spec : Spec) (found : Option (List ℕ)) (before after : Option (List ℕ)) → TraceFront spec before after → (verdict : Verdict) (trace : List ℕ) → EndsWithStimulus spec found verdict trace → AddedFront before after trace
 begin_cut spec None before after front verdict trace ends = front [] trace ends.1
 begin_cut spec (Some bytes) before after front verdict trace ends = front (script_of spec.vars step_limit bytes).steps trace ends.1
+
+-- ---- the same where a folder tells its files
+
+pub begin_cut_told : (spec : Spec) (content : Option Files) (name : List ℕ) (before after : Option (List ℕ)) → TraceFront spec before after → IfSome content (λ files. (verdict : Verdict) (trace : List ℕ) → EndsWithStimulus spec (get files name) verdict trace → AddedFront before after trace)
+begin_cut_told spec None name before after front = tt
+begin_cut_told spec (Some files) name before after front = begin_cut spec (get files name) before after front
+
+pub follow_cut_told : (spec : Spec) (content : Option Files) (name : List ℕ) (before mid after : Option (List ℕ)) → OneLine spec → Began spec before mid → IfSome content (λ files. FollowedFront spec (get files name) mid after) → IfSome content (λ files. (verdict : Verdict) (trace : List ℕ) → EndsWithStimulus spec (get files name) verdict trace → AddedFront before after trace)
+follow_cut_told spec None name before mid after one began front = tt
+follow_cut_told spec (Some files) name before mid after one began front = follow_cut spec (get files name) before mid after one began front
+
+pub followed_told : (spec : Spec) (content : Option Files) (name : List ℕ) (verdict : Verdict) (before mid after : Option (List ℕ)) → Began spec before mid → IfSome content (λ files. Followed spec (get files name) verdict mid after) → IfSome content (λ files. (trace : List ℕ) × EndsWithStimulus spec (get files name) verdict trace × Added before after trace)
+followed_told spec None name verdict before mid after began follows = tt
+followed_told spec (Some files) name verdict before mid after began follows = followed spec (get files name) verdict before mid after began follows

@@ -55,6 +55,7 @@ impl StepReader {
     pub fn new(alloc: Global, most: u64) -> Result<StepReader, AllocError>
         ensures start { IfOk result (λ reader. (vars : List Var) (bytes : List ℕ) → script_left vars reader bytes ≡ script_of vars most bytes) }
         ensures empty { IfOk result (λ reader. settings_of_step reader ≡ []) }
+        ensures steps { IfOk result (λ reader. reader.more ≡ most) }
     {
         Ok(StepReader {
             more: most,
