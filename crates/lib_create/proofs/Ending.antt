@@ -1,0 +1,52 @@
+-- A run ends in one way, with one trace.
+use Rattle.std.proofs.Common.{◌≡◌, ℕ, List, [], sym, ◌∙◌, ap, subst, Option, None, Some, inl, inr}
+use Rattle.std.specs.Prelude.{Result, Ok, Err}
+use Rattle.std.specs.FinMap.{get}
+use Rattle.io_edge.specs.File.{Files}
+use Rattle.net_ir.specs.declared.design.Spec.{Spec}
+use Rattle.net_ir.specs.Plain.{IsPlain}
+use Rattle.net_ir.specs.Run.{Step}
+use Rattle.net_ir.specs.Trace.{IsTrace}
+use Rattle.lib_create.specs.declared.tree.Module.{Module}
+use Rattle.lib_create.specs.Command.{Sim, Misuse, meaning_of}
+use Rattle.lib_create.specs.Grammar.{Spells}
+use Rattle.lib_create.specs.Design.{design_of}
+use Rattle.lib_create.specs.Stimulus.{script_of}
+use Rattle.lib_create.specs.Outcome.{Verdict, step_limit, status_of, message_of, EndsWithStimulus, EndsWithSource, EndsWithWords, Ends, Outcome, IsOutcome}
+
+abbrev pub OneTrace : Type 0
+OneTrace = (spec : Spec) (steps : List Step) (a b : List ℕ) → IsPlain spec → IsTrace spec steps a → IsTrace spec steps b → a ≡ b
+
+abbrev pub OneModule : Type 0
+OneModule = (file : ℕ) (bytes : List ℕ) (first second : Module) → Spells file bytes first → Spells file bytes second → first ≡ second
+
+abbrev pub OneEnd : Type 0
+OneEnd = (files : Files) (words : List (List ℕ)) (first second : Verdict) (trace other : List ℕ) → Ends files words first trace → Ends files words second other → (first ≡ second) × (trace ≡ other)
+
+pub stimulus_once : OneTrace → (spec : Spec) → IsPlain spec → (found : Option (List ℕ)) (v w : Verdict) (s t : List ℕ) → EndsWithStimulus spec found v s → EndsWithStimulus spec found w t → (v ≡ w) × (s ≡ t)
+stimulus_once traces spec plain None v w s t a b = (a.0 ∙ sym b.0, traces spec [] s t plain a.1 b.1)
+stimulus_once traces spec plain (Some bytes) v w s t a b = (a.0 ∙ sym b.0, traces spec (script_of spec.vars step_limit bytes).steps s t plain a.1 b.1)
+
+pub source_once : OneTrace → OneModule → (files : Files) (sim : Sim) (found : Option (List ℕ)) (v w : Verdict) (s t : List ℕ) → EndsWithSource files sim found v s → EndsWithSource files sim found w t → (v ≡ w) × (s ≡ t)
+source_once traces modules files sim None v w s t a b = (a.0 ∙ sym b.0, a.1 ∙ sym b.1)
+source_once traces modules files sim (Some bytes) v w s t (inl a) (inl b) =
+    let same : b.0 ≡ a.0 = modules 1 bytes b.0 a.0 b.1.spells a.1.spells in
+    let other : EndsWithStimulus (design_of a.0) (get files sim.stimulus) w t = subst (λ m. EndsWithStimulus (design_of m) (get files sim.stimulus) w t) same b.2 in
+    stimulus_once traces (design_of a.0) a.1.legal.plain (get files sim.stimulus) v w s t a.2 other
+source_once traces modules files sim (Some bytes) v w s t (inl a) (inr b) = absurd (b.0 a.0 a.1)
+source_once traces modules files sim (Some bytes) v w s t (inr a) (inl b) = absurd (a.0 b.0 b.1)
+source_once traces modules files sim (Some bytes) v w s t (inr a) (inr b) = (a.1 ∙ sym b.1, a.2 ∙ sym b.2)
+
+pub words_once : OneTrace → OneModule → (files : Files) (meaning : Result Sim Misuse) (v w : Verdict) (s t : List ℕ) → EndsWithWords files meaning v s → EndsWithWords files meaning w t → (v ≡ w) × (s ≡ t)
+words_once traces modules files (Ok sim) v w s t a b = source_once traces modules files sim (get files sim.file) v w s t a b
+words_once traces modules files (Err misuse) v w s t a b = (a.0 ∙ sym b.0, a.1 ∙ sym b.1)
+
+pub end_once : OneTrace → OneModule → OneEnd
+end_once traces modules files words v w s t a b = words_once traces modules files (meaning_of words) v w s t a b
+
+pub outcome_once : OneEnd → (files : Files) (words : List (List ℕ)) (first second : Outcome) → IsOutcome files words first → IsOutcome files words second → first ≡ second
+outcome_once end files words first second a b =
+    let same : (a.verdict ≡ b.verdict) × (first.out ≡ second.out) = end files words a.verdict b.verdict first.out second.out a.ends b.ends in
+    let status : first.status ≡ second.status = a.status ∙ ap status_of same.0 ∙ sym b.status in
+    let err : first.err ≡ second.err = a.message ∙ ap message_of same.0 ∙ sym b.message in
+    λ i. record { status = status i; out = same.1 i; err = err i }
