@@ -18,3 +18,4 @@ pub mod Elaborated
 pub mod Begun
 pub mod Few
 pub mod Ending
+pub mod Answering

@@ -33,7 +33,7 @@ const SOURCE_LIMIT: usize = 1_048_576;
 /// What the source file of a command is. Takes time in the size of the file times the logarithm of the number of
 /// ports.
 pub fn compile<D: Folder>(alloc: Global, sim: Sim<'_>, folder: &mut D) -> Result<Compiled, Stop>
-    ensures compiled { IfOk result (λ compiled. IfSome (D.content folder.old) (λ files. IsCompiled (get files sim.file.now) sim.top.now compiled)) }
+    ensures compiled { IfOk result (λ compiled. IfSome (D.content folder.old) (λ files. IsCompiled (get files sim.entry.file.now) sim.entry.top.now compiled)) }
     ensures plain { IfOk result IsPlainDesign }
     ensures cause { IfErr result (λ stop. IsReadCause stop (D.read_faults folder.old) (D.read_faults folder.new)) }
     ensures unchanged { D.content folder.new ≡ D.content folder.old }
