@@ -17,3 +17,4 @@ pub mod Plain
 pub mod Elaborated
 pub mod Begun
 pub mod Few
+pub mod Compiled

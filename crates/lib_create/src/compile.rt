@@ -33,7 +33,7 @@ const SOURCE_LIMIT: usize = 1_048_576;
 /// What the source file of a command is. Takes time in the size of the file times the logarithm of the number of
 /// ports.
 pub fn compile<D: Folder>(alloc: Global, sim: Sim<'_>, folder: &mut D) -> Result<Compiled, Stop>
-    ensures compiled { IfOk result (λ compiled. IfSome (D.content folder.old) (λ files. IsCompiled (get files sim.file.now) sim.top.now compiled)) }
+    ensures compiled { IfOk result (λ compiled. IfSome (D.content folder.old) (λ files. IsCompiled (get files sim.entry.file.now) sim.entry.top.now compiled)) }
     ensures plain { IfOk result IsPlainDesign }
     ensures cause { IfErr result (λ stop. IsReadCause stop (D.read_faults folder.old) (D.read_faults folder.new)) }
     ensures unchanged { D.content folder.new ≡ D.content folder.old }
@@ -44,7 +44,13 @@ pub fn compile<D: Folder>(alloc: Global, sim: Sim<'_>, folder: &mut D) -> Result
         Err(stop) => Err(stop),
         Ok(Loaded::Absent) => Ok(Compiled::Absent),
         Ok(Loaded::TooLong) => Ok(Compiled::Refused),
-        Ok(Loaded::Bytes(bytes)) => compile_bytes(alloc, sim.top, bytes.as_slice()),
+        Ok(Loaded::Bytes(bytes)) => {
+            // `load` promises the limit only where the folder's content is told.
+            if bytes.len() > SOURCE_LIMIT {
+                return Ok(Compiled::Refused);
+            }
+            compile_bytes(alloc, sim.top, bytes.as_slice())
+        }
     }
 }
 
@@ -56,11 +62,11 @@ fn compile_bytes(alloc: Global, top: &str, bytes: &[u8]) -> Result<Compiled, Sto
     ensures memory { IfErr result (λ stop. stop ≡ NoMemory) }
 {
     law::one_module();
-    let Some(module) = read_source(alloc, 1, bytes)? else {
-        return Ok(Compiled::Refused);
-    };
-    match elaborate(alloc, top.as_bytes(), &module)? {
-        Some(spec) => Ok(Compiled::Design(spec)),
+    match read_source(alloc, 1, bytes)? {
         None => Ok(Compiled::Refused),
+        Some(module) => match elaborate(alloc, top.as_bytes(), &module)? {
+            None => Ok(Compiled::Refused),
+            Some(spec) => Ok(Compiled::Design(spec)),
+        },
     }
 }
