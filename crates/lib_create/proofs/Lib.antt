@@ -19,3 +19,4 @@ pub mod Begun
 pub mod Few
 pub mod Ending
 pub mod Answering
+pub mod Compiled

@@ -44,7 +44,13 @@ pub fn compile<D: Folder>(alloc: Global, sim: Sim<'_>, folder: &mut D) -> Result
         Err(stop) => Err(stop),
         Ok(Loaded::Absent) => Ok(Compiled::Absent),
         Ok(Loaded::TooLong) => Ok(Compiled::Refused),
-        Ok(Loaded::Bytes(bytes)) => compile_bytes(alloc, sim.top, bytes.as_slice()),
+        Ok(Loaded::Bytes(bytes)) => {
+            // `load` promises the limit only where the folder's content is told.
+            if bytes.len() > SOURCE_LIMIT {
+                return Ok(Compiled::Refused);
+            }
+            compile_bytes(alloc, sim.top, bytes.as_slice())
+        }
     }
 }
 
@@ -56,11 +62,11 @@ fn compile_bytes(alloc: Global, top: &str, bytes: &[u8]) -> Result<Compiled, Sto
     ensures memory { IfErr result (λ stop. stop ≡ NoMemory) }
 {
     law::one_module();
-    let Some(module) = read_source(alloc, 1, bytes)? else {
-        return Ok(Compiled::Refused);
-    };
-    match elaborate(alloc, top.as_bytes(), &module)? {
-        Some(spec) => Ok(Compiled::Design(spec)),
+    match read_source(alloc, 1, bytes)? {
         None => Ok(Compiled::Refused),
+        Some(module) => match elaborate(alloc, top.as_bytes(), &module)? {
+            None => Ok(Compiled::Refused),
+            Some(spec) => Ok(Compiled::Design(spec)),
+        },
     }
 }
