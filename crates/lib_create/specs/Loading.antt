@@ -12,6 +12,12 @@ IsLoaded (Some bytes) limit Absent = ⊥
 IsLoaded (Some bytes) limit TooLong = limit < length bytes
 IsLoaded (Some bytes) limit (Bytes v) = (v.items ≡ bytes) × (length bytes ≤ limit)
 
+-- no more bytes than the limit were read
+abbrev pub IsWithin : ℕ → Loaded → Type 0
+IsWithin limit Absent = ⊤
+IsWithin limit TooLong = ⊤
+IsWithin limit (Bytes v) = length v.items ≤ limit
+
 -- these bytes are a front of what a name holds; none are where it isn't there
 abbrev pub IsFrontOf : Option (List ℕ) → List ℕ → Type 0
 IsFrontOf None front = front ≡ []

@@ -44,13 +44,7 @@ pub fn compile<D: Folder>(alloc: Global, sim: Sim<'_>, folder: &mut D) -> Result
         Err(stop) => Err(stop),
         Ok(Loaded::Absent) => Ok(Compiled::Absent),
         Ok(Loaded::TooLong) => Ok(Compiled::Refused),
-        Ok(Loaded::Bytes(bytes)) => {
-            // `load` promises the limit only where the folder's content is told.
-            if bytes.len() > SOURCE_LIMIT {
-                return Ok(Compiled::Refused);
-            }
-            compile_bytes(alloc, sim.top, bytes.as_slice())
-        }
+        Ok(Loaded::Bytes(bytes)) => compile_bytes(alloc, sim.top, bytes.as_slice()),
     }
 }
 

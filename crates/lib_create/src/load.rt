@@ -3,7 +3,7 @@
 ghost use Rattle.std.specs.Prelude.{◌≡◌, ◌≤◌, ◌^◌, ◌<◌, ⊤, IfOk, IfSome, IsErrOf};
 ghost use Rattle.std.specs.FinMap.{get};
 ghost use Rattle.io_edge.specs.Fault.{Rose};
-ghost use Rattle.lib_create.specs.Loading.{IsLoaded};
+ghost use Rattle.lib_create.specs.Loading.{IsLoaded, IsWithin};
 ghost use Rattle.lib_create.specs.declared.stop.Stop.TheVariants.{ReadFault, WriteFault};
 
 use crate::stop::Stop;
@@ -33,6 +33,7 @@ pub fn load<D: Folder>(
 ) -> Result<Loaded, Stop>
     requires { limit < 2 ^ 62 }
     ensures loaded { IfOk result (λ loaded. IfSome (D.content folder.old) (λ files. IsLoaded (get files name.now) limit loaded)) }
+    ensures within { IfOk result (λ loaded. IsWithin limit loaded) }
     ensures unchanged { D.content folder.new ≡ D.content folder.old }
     ensures read_fault { IsErrOf result ReadFault → Rose (D.read_faults folder.old) (D.read_faults folder.new) }
     ensures no_write_fault { IsErrOf result WriteFault → ⊥ }
