@@ -20,3 +20,4 @@ pub mod Few
 pub mod Ending
 pub mod Answering
 pub mod Compiled
+pub mod Simulated
