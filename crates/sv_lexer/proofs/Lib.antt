@@ -1,0 +1,4 @@
+pub mod Runs
+pub mod Leads
+pub mod Longest
+pub mod Numbers
