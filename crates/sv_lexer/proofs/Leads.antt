@@ -35,7 +35,7 @@ leads f l = false
 
 -- a byte that is one of five
 pub blank_lead : (b : ℕ) → is_blank b ≡ true → lead_of b ≡ Blank
-unfolding lead_of
+unfolding lead_of is_sign
 blank_lead b h =
     elim (or_cases _ (eqb b 13) h) [
         inr e ↦ rw (eqb-true b 13 e) refl
@@ -52,30 +52,30 @@ blank_lead b h =
     ]
 
 pub letter_lead : (b : ℕ) → is_name_start b ≡ true → lead_of b ≡ Letter
-unfolding lead_of
+unfolding lead_of is_sign
 letter_lead b h = cond-true _ _ _ h
 
 pub digit_no_start : (b : ℕ) → is_ascii_digit b ≡ true → is_name_start b ≡ false
 digit_no_start b h = grind (arith, nat_tests)
 
 pub digit_lead : (b : ℕ) → is_ascii_digit b ≡ true → lead_of b ≡ Digit
-unfolding lead_of
+unfolding lead_of is_sign
 digit_lead b h = cond-false _ _ _ (digit_no_start b h) ∙ cond-true _ _ _ h
 
 pub dollar_lead : lead_of 36 ≡ Dollar
-unfolding lead_of
+unfolding lead_of is_sign
 dollar_lead = refl
 
 pub quote_lead : lead_of 39 ≡ Quote
-unfolding lead_of
+unfolding lead_of is_sign
 quote_lead = refl
 
 pub slash_lead : lead_of 47 ≡ Slash
-unfolding lead_of
+unfolding lead_of is_sign
 slash_lead = refl
 
 pub backquote_lead : lead_of 96 ≡ Backquote
-unfolding lead_of
+unfolding lead_of is_sign
 backquote_lead = refl
 
 -- what each sign of a table passes, a sign passes
@@ -94,10 +94,11 @@ leads_sign [] = false
 leads_sign (b ∷ bs) = leads form.Sign (lead_of b)
 
 signs_lead : list_all leads_sign signs ≡ true
-unfolding lead_of
+unfolding lead_of is_sign
 signs_lead = refl
 
 pub sign_lead : (b : ℕ) (more : List ℕ) → is_sign (b ∷ more) ≡ true → leads form.Sign (lead_of b) ≡ true
+unfolding is_sign
 sign_lead b more h = sign_passes leads_sign signs (b ∷ more) signs_lead h
 
 -- a base part begins with `'`
@@ -118,6 +119,14 @@ based_first text [] head digits base e f h =
 based_first text (b ∷ bs) head digits base e (inl f) h = absurd (cc)
 based_first text (b ∷ bs) head digits base e (inr f) h = (b, _, e, inl f.0)
 
+pub empty_sign : is_sign [] ≡ true → ⊥
+unfolding is_sign
+empty_sign h = cc
+
+pub slash_is_sign : is_sign (47 ∷ []) ≡ true
+unfolding is_sign
+slash_is_sign = refl
+
 -- a piece isn't empty
 pub no_empty : (g : Form) → HasForm g [] → ⊥
 no_empty form.Blank h = let e = h.1 in cc
@@ -131,7 +140,7 @@ no_empty form.System h = let e = h.1 in cc
 no_empty form.Decimal h = h
 no_empty form.Based h = let r = based_first [] h.0 h.3.head h.2 h.1 h.3.whole h.3.size_form h.3.head_form in let e = r.2 in cc
 no_empty form.Fill h = elim h [ inl e ↦ cc | inr e ↦ cc ]
-no_empty form.Sign h = cc
+no_empty form.Sign h = empty_sign h
 
 -- the first byte of a piece
 pub lead : (g : Form) (b : ℕ) (more : List ℕ) → HasForm g (b ∷ more) → leads g (lead_of b) ≡ true
@@ -175,3 +184,19 @@ lead form.Sign b more h = sign_lead b more h
 -- A piece whose first byte leads elsewhere has not this form.
 pub elsewhere : (g : Form) (b : ℕ) (more : List ℕ) (l : Lead) → lead_of b ≡ l → leads g l ≡ false → HasForm g (b ∷ more) → ⊥
 elsewhere g b more l e off h = let yes : leads g l ≡ true = sym (ap (leads g) e) ∙ lead g b more h in cc
+
+chain : (a b c d e f g h : Bool) → cond a Letter (cond b Digit (cond c Blank (cond d Dollar (cond e Quote (cond f Slash (cond g Backquote (cond h Sign Other))))))) ≡ Sign → h ≡ true
+chain true b c d e f g h x = cc
+chain false true c d e f g h x = cc
+chain false false true d e f g h x = cc
+chain false false false true e f g h x = cc
+chain false false false false true f g h x = cc
+chain false false false false false true g h x = cc
+chain false false false false false false true h x = cc
+chain false false false false false false false true x = refl
+chain false false false false false false false false x = cc
+
+-- a byte that leads to signs is one
+pub lead_is_sign : (b : ℕ) → lead_of b ≡ Sign → is_sign (b ∷ []) ≡ true
+unfolding lead_of is_sign
+lead_is_sign b e = chain (is_name_start b) (is_ascii_digit b) (is_blank b) (eqb b 36) (eqb b 39) (eqb b 47) (eqb b 96) (is_sign (b ∷ [])) e

@@ -6,14 +6,14 @@ use Rattle.std.specs.Prelude.{codes}
 use Rattle.std.proofs.lemmas.Slice.Eq.{bytes_eq-Decides}
 use Rattle.std.proofs.Math.Seq.{take-append_seam}
 use Rattle.std.proofs.lemmas.Bool.Decides.{nat_tests}
-use Rattle.std.proofs.lemmas.Bool.{eqb-true, or_cases, both_ways, and_parts, ltb-true, leb-true}
-use Rattle.std.proofs.lemmas.List.{append_assoc, length-append, append-nil, get_or_append_left, get_or-append-add, append_cancel_left}
+use Rattle.std.proofs.lemmas.Bool.{eqb-true, or_cases, both_ways, and_parts, false_from_ne_true, cases_eq, ltb-true, leb-true}
+use Rattle.std.proofs.lemmas.List.{append_assoc, length-append, length-take, append-nil, get_or_append_left, get_or-append-add, append_cancel_left}
 use Rattle.std.proofs.Math.Nat.{suc-add}
 use Rattle.sv_lexer.specs.Bytes.{Each, Stops, is_blank, is_in_line, is_name_start, is_name_byte, is_decimal_byte}
 use Rattle.sv_lexer.specs.Piece.{HasForm, HasNoForm, IsLongest, IsName, IsComment, HasNoClose, is_skipped, signs, is_sign}
 use Rattle.sv_lexer.specs.Scan.{lead_of, IsFound, IsCommentForm}
 use Rattle.sv_lexer.proofs.Runs.{Each-append, clash, stops_here, Stops-front, runs_agree, head_eq, tail_eq}
-use Rattle.sv_lexer.proofs.Leads.{leads, blank_lead, letter_lead, digit_lead, dollar_lead, quote_lead, slash_lead, backquote_lead, sign_lead, sign_passes, no_empty, elsewhere}
+use Rattle.sv_lexer.proofs.Leads.{leads, blank_lead, letter_lead, digit_lead, dollar_lead, quote_lead, slash_lead, backquote_lead, sign_lead, slash_is_sign, sign_passes, no_empty, elsewhere}
 use Rattle.sv_lexer.specs.declared.form.Form.{Form}
 use Rattle.sv_lexer.specs.declared.form.Form.TheVariants as form
 use Rattle.sv_lexer.specs.declared.lead.Lead.{Lead}
@@ -106,6 +106,7 @@ signs_slash : list_all slash_alone signs ≡ true
 signs_slash = refl
 
 pub slash_sign : (more : List ℕ) → is_sign (47 ∷ more) ≡ true → more ≡ []
+unfolding is_sign
 slash_sign [] h = refl
 slash_sign (m ∷ more) h = let x : false ≡ true = sign_passes slash_alone signs (47 ∷ m ∷ more) signs_slash h in cc
 
@@ -117,7 +118,21 @@ signs_short : list_all is_short signs ≡ true
 signs_short = refl
 
 pub sign_short : (piece : List ℕ) → is_sign piece ≡ true → length piece ≤ 3
+unfolding is_sign
 sign_short piece h = leb-true (length piece) 3 (sign_passes is_short signs piece signs_short h)
+
+-- a longer front is no sign
+pub long_no_sign : (s : List ℕ) (m : ℕ) → 3 < m → m ≤ length s → is_sign (take m s) ≡ false
+long_no_sign s m lt le =
+    false_from_ne_true (is_sign (take m s)) (λ h. let short = sign_short (take m s) h in let size = length-take m s in absurd (omega arith))
+
+-- the front of one length is no sign, and no longer one is
+pub no_sign_from : (s : List ℕ) (n : ℕ) → (n ≤ length s → is_sign (take n s) ≡ false) → ((m : ℕ) → n < m → m ≤ length s → is_sign (take m s) ≡ false) → (k : ℕ) → n ≡ suc k → (m : ℕ) → k < m → m ≤ length s → is_sign (take m s) ≡ false
+no_sign_from s n here above k e m lt le =
+    elim (cases_eq n m) [
+        inl same ↦ rw (sym same) (here (omega arith))
+      | inr other ↦ above m (omega arith) le
+    ]
 
 pub sign_found : (b : ℕ) (bs rest : List ℕ) → lead_of b ≡ Sign → is_sign (b ∷ bs) ≡ true → ((m : ℕ) → length (b ∷ bs) < m → m ≤ length ((b ∷ bs) ++ rest) → is_sign (take m ((b ∷ bs) ++ rest)) ≡ false) → IsFound form.Sign (b ∷ bs) rest
 sign_found b bs rest e h none = record { has_form = h; longest = go }
@@ -138,7 +153,7 @@ sign_found b bs rest e h none = record { has_form = h; longest = go }
 
 -- `/` alone, where no comment begins
 pub slash_found : (rest : List ℕ) → ((t : List ℕ) → rest ≡ 47 ∷ t → ⊥) → ((t : List ℕ) → rest ≡ 42 ∷ t → ⊥) → IsFound form.Sign (47 ∷ []) rest
-slash_found rest no_line no_block = record { has_form = refl; longest = go }
+slash_found rest no_line no_block = record { has_form = slash_is_sign; longest = go }
   where
   comment : (content more after : List ℕ) → rest ≡ more ++ after → IsComment content (47 ∷ more) → ⊥
   comment content more after x k =

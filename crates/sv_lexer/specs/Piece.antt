@@ -112,7 +112,7 @@ signs = codes "<<<" ∷ codes ">>>" ∷ codes "===" ∷ codes "!==" ∷ codes "<
     ∷ codes "." ∷ codes "#" ∷ codes "@" ∷ codes "?" ∷ codes "=" ∷ codes "+" ∷ codes "-" ∷ codes "*"
     ∷ codes "/" ∷ codes "%" ∷ codes "&" ∷ codes "|" ∷ codes "^" ∷ codes "~" ∷ codes "!" ∷ codes "<" ∷ codes ">" ∷ []
 
-abbrev pub is_sign : List ℕ → Bool
+unfoldable pub is_sign : List ℕ → Bool
 is_sign piece = list_any (λ sign. bytes_eq sign piece) signs
 
 -- ---- the forms

@@ -1,11 +1,12 @@
 -- what the steps of a cut find at the front of a text
-use Rattle.std.specs.Prelude.{◌≡◌, ◌⊎◌, ◌==◌, ℕ, Bool, true, false, if◌then◌else◌, List, [], ◌∷◌, ◌++◌}
+use Rattle.std.specs.Prelude.{◌≡◌, ◌⊎◌, ◌==◌, ◌+◌, ◌<◌, ◌≤◌, ℕ, Bool, true, false, if◌then◌else◌, List, [], ◌∷◌, ◌++◌, length, take, drop, slice_index}
 use Rattle.std.specs.Char.{is_ascii_digit}
-use Rattle.sv_lexer.specs.Bytes.{is_blank, is_name_start}
-use Rattle.sv_lexer.specs.Piece.{HasForm, IsLongest, HasNoForm, IsHead, IsDigits, IsMarkText, is_sign}
+use Rattle.sv_lexer.specs.Bytes.{is_blank, is_name_start, is_name_byte, is_digit_of, is_based_byte, Stops}
+use Rattle.sv_lexer.specs.Piece.{HasForm, IsLongest, HasNoForm, IsName, IsHead, IsDigits, IsMarkText, is_sign}
 use Rattle.sv_lexer.specs.declared.form.Base.{Base}
 use Rattle.sv_lexer.specs.declared.form.Form.{Form}
 use Rattle.sv_lexer.specs.declared.form.Form.TheVariants as form
+use Rattle.sv_lexer.specs.declared.found.Found.{Found}
 use Rattle.sv_lexer.specs.declared.lead.Lead.{Lead}
 use Rattle.sv_lexer.specs.declared.lead.Lead.TheVariants.{Blank, Letter, Digit, Dollar, Quote, Slash, Backquote, Sign, Other}
 
@@ -37,3 +38,38 @@ pub record IsLongestTail (tail rest : List ℕ) : Type 0 where
 -- the text begins with no such part
 abbrev pub HasNoHead : List ℕ → Type 0
 HasNoHead text = (base : Base) (head after : List ℕ) → text ≡ head ++ after → IsHead base head → ⊥
+
+-- so many bytes at the front of the text are its longest piece
+pub record IsFoundAt (found : Found) (text : List ℕ) : Type 0 where
+  pub some : 0 < found.len
+  pub within : found.len ≤ length text
+  pub is_found : IsFound found.form (take found.len text) (drop found.len text)
+
+-- so many bytes at the front are a name, which ends there
+pub record IsNameAt (n : ℕ) (text : List ℕ) : Type 0 where
+  pub some : 0 < n
+  pub within : n ≤ length text
+  pub is_name : IsName (take n text)
+  pub stops : Stops is_name_byte (drop n text)
+
+-- the first `*/` of the text begins here
+pub record ClosesAt (at : ℕ) (text : List ℕ) : Type 0 where
+  pub within : at + 1 < length text
+  pub star : slice_index text at ≡ 42
+  pub slash : slice_index text (at + 1) ≡ 47
+  pub first : (k : ℕ) → k < at → slice_index text k ≡ 42 → slice_index text (k + 1) ≡ 47 → ⊥
+
+-- where the digits of a base stop
+abbrev pub DigitsStop : Base → List ℕ → List ℕ → Type 0
+DigitsStop base [] rest = Stops (is_digit_of base) rest
+DigitsStop base (d ∷ ds) rest = Stops (is_based_byte base) rest
+
+-- so many bytes at the front are the longest part of a based number after its size
+pub record IsTailAt (n : ℕ) (text : List ℕ) : Type 0 where
+  pub within : n ≤ length text
+  pub longest_tail : IsLongestTail (take n text) (drop n text)
+
+-- so many bytes at the front are the part with the base
+pub record IsHeadAt (base : Base) (n : ℕ) (text : List ℕ) : Type 0 where
+  pub within : n ≤ length text
+  pub is_head : IsHead base (take n text)

@@ -3,8 +3,12 @@
 #![tactic(auto)]
 
 mod form;
+mod found;
 mod lead;
+mod number;
 mod run;
+mod scan;
+mod sign;
 mod token;
 
 pub use token::{LexFault, Token, TokenKind};

@@ -1,4 +1,4 @@
-ghost use Rattle.std.specs.Prelude.{◌≡◌, ◌≤◌, ◌<◌, length, take, drop};
+ghost use Rattle.std.specs.Prelude.{◌≡◌, ◌≢◌, ◌≤◌, ◌<◌, length, take, drop, slice_index};
 ghost use Rattle.sv_lexer.specs.Bytes as bytes_spec;
 ghost use Rattle.sv_lexer.specs.Bytes.{Each, Stops, is_in};
 
@@ -76,4 +76,18 @@ pub fn run_len(class: Class, bytes: &[u8]) -> usize
         n += 1;
     }
     n
+}
+
+pub fn is_name_start(b: u8) -> bool
+    ensures { result ≡ bytes_spec.is_name_start b }
+{
+    b.is_ascii_alphabetic() || b == b'_'
+}
+
+/// The byte at this place, and 0 past the end.
+pub fn byte_at(bytes: &[u8], at: usize) -> u8
+    ensures value { result ≡ slice_index bytes.now at }
+    ensures within { result ≢ 0 → at < length bytes.now }
+{
+    if at < bytes.len() { bytes[at] } else { 0 }
 }
