@@ -2,3 +2,4 @@ pub mod Runs
 pub mod Leads
 pub mod Longest
 pub mod Numbers
+pub mod Front

@@ -91,7 +91,7 @@ quote_stops tail more h =
 
 -- ---- numbers
 
-digit_is_byte : (b : ℕ) → is_ascii_digit b ≡ true → is_decimal_byte b ≡ true
+pub digit_is_byte : (b : ℕ) → is_ascii_digit b ≡ true → is_decimal_byte b ≡ true
 digit_is_byte b h = or_left (is_ascii_digit b) (eqb b 95) h
 
 pub decimal_bytes : (size : List ℕ) → IsDecimal size → Each is_decimal_byte size
