@@ -3,3 +3,4 @@ pub mod Leads
 pub mod Longest
 pub mod Numbers
 pub mod Front
+pub mod Marks

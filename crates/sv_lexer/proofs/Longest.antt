@@ -51,13 +51,13 @@ word_found b bs rest n s = record { has_form = n; longest = go }
   go form.Word more after x k = stops_here is_name_byte rest more after x s (Each-append is_name_byte bs more k.1).1
   go g more after x k = absurd (elsewhere g b (bs ++ more) Letter (letter_lead b n.0) refl k)
 
+pub start_is_name_byte : (b : ℕ) → is_name_start b ≡ true → is_name_byte b ≡ true
+start_is_name_byte b h = grind (arith, nat_tests)
+
 -- a name has only name bytes
 pub name_bytes : (word : List ℕ) → IsName word → Each is_name_byte word
 name_bytes [] n = elim n [ ]
 name_bytes (b ∷ bs) n = (start_is_name_byte b n.0, n.1)
-  where
-  start_is_name_byte : (b : ℕ) → is_name_start b ≡ true → is_name_byte b ≡ true
-  start_is_name_byte b h = grind (arith, nat_tests)
 
 name_front : (xs ys : List ℕ) → (xs ≡ [] → ⊥) → IsName (xs ++ ys) → Each is_name_byte ys
 name_front [] ys some n = absurd (some refl)

@@ -1,7 +1,7 @@
 -- what the steps of a cut find at the front of a text
 use Rattle.std.specs.Prelude.{◌≡◌, ◌⊎◌, ◌==◌, ◌+◌, ◌<◌, ◌≤◌, ℕ, Bool, true, false, if◌then◌else◌, List, [], ◌∷◌, ◌++◌, length, take, drop, slice_index}
 use Rattle.std.specs.Char.{is_ascii_digit}
-use Rattle.sv_lexer.specs.Bytes.{is_blank, is_name_start, is_name_byte, is_digit_of, is_based_byte, Stops}
+use Rattle.sv_lexer.specs.Bytes.{is_blank, is_name_start, is_name_byte, is_digit_of, is_based_byte, Each, Stops}
 use Rattle.sv_lexer.specs.Piece.{HasForm, IsLongest, HasNoForm, IsName, IsHead, IsDigits, IsMarkText, is_sign}
 use Rattle.sv_lexer.specs.declared.form.Base.{Base}
 use Rattle.sv_lexer.specs.declared.form.Form.{Form}
@@ -73,3 +73,11 @@ pub record IsTailAt (n : ℕ) (text : List ℕ) : Type 0 where
 pub record IsHeadAt (base : Base) (n : ℕ) (text : List ℕ) : Type 0 where
   pub within : n ≤ length text
   pub is_head : IsHead base (take n text)
+
+-- the text is so many blanks and then the rest, which begins with none
+pub record IsBlankRun (n : ℕ) (text rest : List ℕ) : Type 0 where
+  pub blanks : List ℕ
+  pub whole : text ≡ blanks ++ rest
+  pub count : n ≡ length blanks
+  pub blank : Each is_blank blanks
+  pub stops : Stops is_blank rest

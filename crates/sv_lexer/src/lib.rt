@@ -2,6 +2,7 @@
 //! marks of hierarchical modules (IEEE 1800-2017, clause 5, as far as `docs/language.md` takes it).
 #![tactic(auto)]
 
+mod comment;
 mod form;
 mod found;
 mod lead;

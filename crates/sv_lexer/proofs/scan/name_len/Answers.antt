@@ -1,0 +1,9 @@
+use Rattle.std.proofs.Common.{◌≡◌, ◌<◌, ◌≤◌, ◌+◌, ℕ, List, length, take, drop, get_or, arith, refl, inl, inr, sym, ◌∙◌}
+use Rattle.std.proofs.lemmas.List.{take_rest}
+use Rattle.std.proofs.lemmas.Grind.{common_steps}
+use Rattle.sv_lexer.proofs.Front.{name_at}
+use Rattle.sv_lexer.proofs.scan.name_len.Goals as goal
+
+pub returns-else-not-is_name_start : goal.returns-else-not-is_name_start
+returns-else-not-is_name_start c =
+    name_at c.run_len.result c.args.bytes.now (grind (arith, common_steps)) (grind (arith, common_steps)) c.run_len.ensures.within c.run_len.ensures.run c.run_len.ensures.stops

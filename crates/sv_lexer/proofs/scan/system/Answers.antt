@@ -1,0 +1,10 @@
+use Rattle.std.proofs.Common.{◌≡◌, ◌<◌, ◌≤◌, ◌+◌, ℕ, Bool, true, false, List, [], length, take, drop, get_or, arith, refl, inl, inr, sym, ap, ◌∙◌}
+use Rattle.std.proofs.lemmas.List.{take_rest}
+use Rattle.sv_lexer.proofs.Front.{system_at, system_none_at}
+use Rattle.sv_lexer.proofs.scan.system.Goals as goal
+
+pub returns-in_default : goal.returns-in_default
+returns-in_default c = system_none_at c.args.bytes.now c.requires (simp take_rest at c.in_default.ensures)
+
+pub returns : goal.returns
+returns c = system_at c.in-Some.name c.args.bytes.now c.requires (simp take_rest at c.in-Some.ensures)
