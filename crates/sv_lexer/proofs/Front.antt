@@ -11,14 +11,14 @@ use Rattle.sv_lexer.specs.Piece.{HasForm, HasNoForm, IsLongest, IsName, IsDecima
 use Rattle.sv_lexer.specs.Scan.{lead_of, IsFound, IsFoundAt, IsNameAt, IsCommentForm, ClosesAt, IsTail, IsLongestTail, IsTailAt, IsHeadAt, HasNoHead, DigitsStop}
 use Rattle.sv_lexer.proofs.Runs.{Each-append, clash, stops_here, Stops-front, runs_agree, head_eq, tail_eq}
 use Rattle.sv_lexer.proofs.Leads.{quote_lead, blank_lead}
-use Rattle.sv_lexer.proofs.Longest.{start_is_name_byte, system_none, directive_none, blank_found, word_found, system_found, sign_found, slash_found, line_found, block_found, open_found, directive_found, other_directive_found}
+use Rattle.sv_lexer.proofs.Longest.{start_is_name_byte, other_no_form, system_none, directive_none, blank_found, word_found, system_found, sign_found, slash_found, line_found, block_found, open_found, directive_found, other_directive_found}
 use Rattle.sv_lexer.proofs.Numbers.{digit_is_byte, tail_first, tail_found, sized_found, decimal_found, unsized_found, fill_found, quote_none}
 use Rattle.sv_lexer.specs.declared.form.Base.{Base}
 use Rattle.sv_lexer.specs.declared.form.Form.{Form}
 use Rattle.sv_lexer.specs.declared.form.Form.TheVariants as form
 use Rattle.sv_lexer.specs.declared.found.Found.{Found}
 use Rattle.sv_lexer.specs.declared.lead.Lead.{Lead}
-use Rattle.sv_lexer.specs.declared.lead.Lead.TheVariants.{Sign}
+use Rattle.sv_lexer.specs.declared.lead.Lead.TheVariants.{Sign, Other}
 
 -- ---- numbers
 
@@ -226,3 +226,15 @@ sign_at (suc n) (b ∷ s) l some le h none =
       is_found = sign_found b (take n s) (drop n s) l h (λ m lt within.
           subst (λ (t : List ℕ). is_sign (take m t) ≡ false) (sym whole) (none m (omega arith) (subst (λ (t : List ℕ). m ≤ length t) whole within)))
     }
+
+pub first_is : (s : List ℕ) (b : ℕ) → 0 < length s → get_or s 0 0 ≡ b → s ≡ b ∷ drop 1 s
+first_is [] b some e = absurd (omega arith)
+first_is (a ∷ s) b some e = ap (λ (x : ℕ). x ∷ s) e
+
+pub first_sign : (s : List ℕ) → 0 < length s → is_sign (get_or s 0 0 ∷ []) ≡ true → is_sign (take 1 s) ≡ true
+first_sign [] some h = absurd (omega arith)
+first_sign (a ∷ s) some h = h
+
+pub no_form_at : (s : List ℕ) → 0 < length s → lead_of (get_or s 0 0) ≡ Other → HasNoForm s
+no_form_at [] some h = absurd (omega arith)
+no_form_at (a ∷ s) some h = other_no_form a s h

@@ -4,3 +4,4 @@ pub mod Longest
 pub mod Numbers
 pub mod Front
 pub mod Marks
+pub mod Values

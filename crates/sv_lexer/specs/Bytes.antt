@@ -69,11 +69,6 @@ abbrev pub Stops : (ℕ → Bool) → List ℕ → Type 0
 Stops test [] = Unit {0}
 Stops test (b ∷ bs) = test b ≡ false
 
--- some byte passes the test
-abbrev pub has : (ℕ → Bool) → List ℕ → Bool
-has test [] = false
-has test (b ∷ bs) = test b || has test bs
-
 -- the number that digits spell at a radix, with each `_` passed over (5.7.1)
 abbrev pub spelled : ℕ → List ℕ → ℕ
 spelled radix digits = fold (λ n b. n * radix + digit_value b) 0 (filter (λ b. not (b == 95)) digits)

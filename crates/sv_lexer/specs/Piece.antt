@@ -5,7 +5,7 @@ use Rattle.std.specs.Char.{is_ascii_digit, is_ascii_graphic}
 use Rattle.std.specs.Str.{bytes_eq}
 use Rattle.sv_base.specs.declared.kind.Kind.{Kind}
 use Rattle.sv_base.specs.declared.kind.Kind.TheVariants as kind
-use Rattle.sv_lexer.specs.Bytes.{is_blank, is_in_line, is_name_start, is_name_byte, is_decimal_byte, radix, is_unknown, is_digit_of, is_based_byte, Each, Stops, has, spelled}
+use Rattle.sv_lexer.specs.Bytes.{is_blank, is_in_line, is_name_start, is_name_byte, is_decimal_byte, radix, is_unknown, is_digit_of, is_based_byte, Each, Stops, spelled}
 use Rattle.sv_lexer.specs.declared.form.Base.{Base}
 use Rattle.sv_lexer.specs.declared.form.Base.TheVariants.{Binary, Octal, Decimal, Hexadecimal}
 use Rattle.sv_lexer.specs.declared.form.Form.{Form}
@@ -84,22 +84,31 @@ pub record IsBased (piece size : List ℕ) (base : Base) (digits : List ℕ) : T
   pub head_form : IsHead base head
   pub digits_form : IsDigits base digits
 
--- A decimal number is signed and has 32 bits.
+-- a decimal number has 32 bits and is signed
 abbrev pub decimal_fault : List ℕ → Option Kind
 decimal_fault piece = if nat_lt 2147483647 (spelled 10 piece) then Some kind.BadNumber else None
 
+abbrev pub has_unknown : List ℕ → Bool
+has_unknown digits = list_any is_unknown digits
+
 -- no digit, an unknown one, or a value that no word holds
 abbrev pub has_bad_digits : Base → List ℕ → Bool
-has_bad_digits base digits =
-    nat_lt (length digits) 1 || has is_unknown digits || nat_le (2 ^ greatest_width) (spelled (radix base) digits)
+has_bad_digits base [] = true
+has_bad_digits base (d ∷ ds) = has_unknown (d ∷ ds) || nat_le (2 ^ greatest_width) (spelled (radix base) (d ∷ ds))
 
--- With a size the value is cut to it; without one it has 32 bits.
+-- a size of 1 to the greatest width; the value is cut to it
+abbrev pub size_fault : List ℕ → Option Kind
+size_fault size =
+    if spelled 10 size == 0 then Some kind.BadNumber else (if nat_lt greatest_width (spelled 10 size) then Some kind.TooWide else None)
+
+-- without a size the value has 32 bits
+abbrev pub width_fault : List ℕ → Base → List ℕ → Option Kind
+width_fault [] base digits = if nat_le (2 ^ 32) (spelled (radix base) digits) then Some kind.BadNumber else None
+width_fault (b ∷ bs) base digits = size_fault (b ∷ bs)
+
+-- what is wrong with a based number of this size, base and digits
 abbrev pub based_fault : List ℕ → Base → List ℕ → Option Kind
-based_fault [] base digits =
-    if has_bad_digits base digits || nat_le (2 ^ 32) (spelled (radix base) digits) then Some kind.BadNumber else None
-based_fault (b ∷ bs) base digits =
-    if has_bad_digits base digits || spelled 10 (b ∷ bs) == 0 then Some kind.BadNumber
-    else (if nat_lt greatest_width (spelled 10 (b ∷ bs)) then Some kind.TooWide else None)
+based_fault size base digits = if has_bad_digits base digits then Some kind.BadNumber else width_fault size base digits
 
 -- ---- signs
 

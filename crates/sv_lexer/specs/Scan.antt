@@ -17,6 +17,18 @@ lead_of b =
     else (if b == 36 then Dollar else (if b == 39 then Quote else (if b == 47 then Slash
     else (if b == 96 then Backquote else (if is_sign (b ∷ []) then Sign else Other)))))))
 
+-- what is known of a byte that leads there
+abbrev pub LeadIs : Lead → ℕ → Type 0
+LeadIs Letter b = is_name_start b ≡ true
+LeadIs Digit b = is_ascii_digit b ≡ true
+LeadIs Blank b = is_blank b ≡ true
+LeadIs Dollar b = b ≡ 36
+LeadIs Quote b = b ≡ 39
+LeadIs Slash b = b ≡ 47
+LeadIs Backquote b = b ≡ 96
+LeadIs Sign b = is_sign (b ∷ []) ≡ true
+LeadIs Other b = Unit {0}
+
 -- the piece has this form, and no longer front of the text has any
 pub record IsFound (f : Form) (piece rest : List ℕ) : Type 0 where
   pub has_form : HasForm f piece

@@ -24,7 +24,8 @@ pub enum Lead {
 
 #[tactic(auto, unfolding(crate::specs::Scan::lead_of))]
 pub fn lead_of(b: u8) -> Lead
-    ensures { result ≡ scan.lead_of b }
+    ensures value { result ≡ scan.lead_of b }
+    ensures known { scan.LeadIs result b }
 {
     if is_name_start(b) {
         Lead::Letter

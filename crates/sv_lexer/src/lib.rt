@@ -11,5 +11,6 @@ mod run;
 mod scan;
 mod sign;
 mod token;
+mod value;
 
 pub use token::{LexFault, Token, TokenKind};

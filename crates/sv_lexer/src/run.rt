@@ -17,8 +17,9 @@ pub enum Class {
     Based(Base),
 }
 
-fn radix(base: Base) -> u64
+pub fn radix(base: Base) -> u64
     ensures value { result ≡ bytes_spec.radix base }
+    ensures some { 1 ≤ result }
     ensures small { result ≤ 16 }
 {
     match base {
@@ -29,7 +30,7 @@ fn radix(base: Base) -> u64
     }
 }
 
-fn digit_value(b: u8) -> u64
+pub fn digit_value(b: u8) -> u64
     ensures value { result ≡ bytes_spec.digit_value b }
     ensures small { result ≤ 16 }
 {

@@ -80,3 +80,49 @@ fn slash(bytes: &[u8]) -> Found
         },
     }
 }
+
+/// The word at the front of a text that begins with a letter or `_`.
+fn word(bytes: &[u8]) -> Found
+    requires some { 0 < length bytes.now }
+    requires letter { is_name_start (slice_index bytes.now 0) ≡ true }
+    ensures { IsFoundAt result bytes.now }
+{
+    Found {
+        form: Form::Word,
+        len: run_len(Class::Name, bytes),
+    }
+}
+
+/// The sign at the front of a text that begins with one other than `/`.
+fn sign(bytes: &[u8]) -> Found
+    requires some { 0 < length bytes.now }
+    requires lead { lead_of (slice_index bytes.now 0) ≡ Lead.Sign }
+    requires sign { is_sign (slice_index bytes.now 0 ∷ []) ≡ true }
+    ensures { IsFoundAt result bytes.now }
+{
+    Found {
+        form: Form::Sign,
+        len: sign_len(bytes),
+    }
+}
+
+/// The longest piece at the front of a text, by its form alone, if one is there.
+pub fn form_at(bytes: &[u8]) -> Option<Found>
+    requires { 0 < length bytes.now }
+    ensures { MatchOption result (HasNoForm bytes.now) (λ found. IsFoundAt found bytes.now) }
+{
+    match lead_of(bytes[0]) {
+        Lead::Blank => Some(Found {
+            form: Form::Blank,
+            len: 1,
+        }),
+        Lead::Letter => Some(word(bytes)),
+        Lead::Digit => Some(number(bytes)),
+        Lead::Dollar => system(bytes),
+        Lead::Quote => quoted(bytes),
+        Lead::Slash => Some(slash(bytes)),
+        Lead::Backquote => directive(bytes),
+        Lead::Sign => Some(sign(bytes)),
+        Lead::Other => None,
+    }
+}
