@@ -1,12 +1,12 @@
 -- which number at the front of a text is the longest
 use Rattle.std.proofs.Common.{◌≡◌, ◌⊎◌, ℕ, zero, suc, ◌+◌, ◌-◌, ◌<◌, ◌≤◌, Bool, true, false, not, cond, eqb, leb, ◌||◌, ◌&&◌, List, [], ◌∷◌, ◌++◌, length, get_or, take, drop, refl, sym, ◌∙◌, ap, subst, inl, inr, arith, rules, Option, Some, None}
 use Rattle.std.proofs.lemmas.Bool.{or_parts, or_left}
-use Rattle.std.proofs.lemmas.List.{append_assoc, append-nil}
+use Rattle.std.proofs.lemmas.List.{append_assoc, append-nil, take-append-drop}
 use Rattle.std.specs.Char.{is_ascii_digit}
 use Rattle.std.specs.Prelude.{codes}
 use Rattle.sv_lexer.specs.Bytes.{Each, Stops, is_decimal_byte, is_digit_of, is_based_byte}
-use Rattle.sv_lexer.specs.Piece.{HasForm, HasNoForm, IsLongest, IsDecimal, IsDigits, IsHead, IsBased, base_of}
-use Rattle.sv_lexer.specs.Scan.{lead_of, IsFound, IsTail, IsLongestTail, HasNoHead, DigitsStop}
+use Rattle.sv_lexer.specs.Piece.{HasForm, HasNoForm, IsLongest, IsDecimal, IsDigits, IsHead, IsBased, base_of, based_fault}
+use Rattle.sv_lexer.specs.Scan.{lead_of, IsFound, IsTail, IsLongestTail, IsHeadAt, HasNoHead, DigitsStop}
 use Rattle.sv_lexer.proofs.Runs.{Each-append, clash, stops_here, Stops-front, runs_agree, head_eq, tail_eq}
 use Rattle.sv_lexer.proofs.Leads.{leads, digit_lead, quote_lead, head_first, elsewhere}
 use Rattle.sv_lexer.proofs.Longest.{no_form_from}
@@ -207,3 +207,25 @@ quote_none t none no_fill = no_form_from 39 t go
         | inr e ↦ no_fill 49 after (x ∙ ap (λ (v : List ℕ). v ++ after) (tail_eq e)) (inr refl)
       ]
   go g more after x k = elsewhere g 39 more Quote quote_lead refl k
+
+-- ---- the parts of a based number, as they are read again
+
+pub based_reads : (piece : List ℕ) (h : HasForm form.Based piece) (n : ℕ) → Each is_decimal_byte (take n piece) → Stops is_decimal_byte (drop n piece) → (take n piece ≡ h.0) × (drop n piece ≡ h.3.head ++ h.2)
+based_reads piece h n r s =
+    let tail = h.3.head ++ h.2 in
+    let whole : take n piece ++ drop n piece ≡ h.0 ++ (h.3.head ++ h.2) = take-append-drop n piece ∙ h.3.whole ∙ append_assoc h.0 h.3.head h.2 in
+    let first = head_first h.1 h.3.head h.2 h.3.head_form in
+    let stop : Stops is_decimal_byte (h.3.head ++ h.2) = subst (Stops is_decimal_byte) (sym first.1) refl in
+    runs_agree is_decimal_byte (take n piece) h.0 (drop n piece) (h.3.head ++ h.2) whole r (size_bytes h.0 h.3.size_form) s stop
+
+pub based_has_head : (piece : List ℕ) (h : HasForm form.Based piece) (n : ℕ) → Each is_decimal_byte (take n piece) → Stops is_decimal_byte (drop n piece) → HasNoHead (drop n piece) → ⊥
+based_has_head piece h n r s none = none h.1 h.3.head h.2 (based_reads piece h n r s).1 h.3.head_form
+
+pub based_fault_reads : (piece : List ℕ) (h : HasForm form.Based piece) (n m : ℕ) (base : Base) → Each is_decimal_byte (take n piece) → Stops is_decimal_byte (drop n piece) → IsHeadAt base m (drop n piece) → based_fault (take n piece) base (drop m (drop n piece)) ≡ based_fault h.0 h.1 h.2
+based_fault_reads piece h n m base r s at =
+    let reads = based_reads piece h n r s in
+    let whole : take m (drop n piece) ++ drop m (drop n piece) ≡ h.3.head ++ h.2 = take-append-drop m (drop n piece) ∙ reads.1 in
+    let same = heads_agree base h.1 (take m (drop n piece)) h.3.head (drop m (drop n piece)) h.2 at.is_head h.3.head_form whole in
+    ap (λ (x : List ℕ). based_fault x base (drop m (drop n piece))) reads.0
+    ∙ ap (λ (x : Base). based_fault h.0 x (drop m (drop n piece))) same.0
+    ∙ ap (λ (x : List ℕ). based_fault h.0 h.1 x) same.2

@@ -1,11 +1,12 @@
 -- what the steps of a cut find at the front of a text
-use Rattle.std.specs.Prelude.{◌≡◌, ◌⊎◌, ◌==◌, ◌+◌, ◌<◌, ◌≤◌, ℕ, Bool, true, false, if◌then◌else◌, List, [], ◌∷◌, ◌++◌, length, take, drop, slice_index}
+use Rattle.std.specs.Prelude.{◌≡◌, ◌⊎◌, ◌==◌, ◌+◌, ◌<◌, ◌≤◌, ℕ, Bool, true, false, if◌then◌else◌, List, [], ◌∷◌, ◌++◌, length, take, drop, slice_index, Option, None, Some}
 use Rattle.std.specs.Char.{is_ascii_digit}
 use Rattle.sv_lexer.specs.Bytes.{is_blank, is_name_start, is_name_byte, is_digit_of, is_based_byte, Each, Stops}
-use Rattle.sv_lexer.specs.Piece.{HasForm, IsLongest, HasNoForm, IsName, IsHead, IsDigits, IsMarkText, is_sign}
+use Rattle.sv_lexer.specs.Piece.{HasForm, IsLongest, HasNoForm, IsName, IsHead, IsDigits, IsMarkText, Fault, is_sign}
 use Rattle.sv_lexer.specs.declared.form.Base.{Base}
 use Rattle.sv_lexer.specs.declared.form.Form.{Form}
 use Rattle.sv_lexer.specs.declared.form.Form.TheVariants as form
+use Rattle.sv_lexer.specs.declared.fault.Flaw.{Flaw}
 use Rattle.sv_lexer.specs.declared.found.Found.{Found}
 use Rattle.sv_lexer.specs.declared.lead.Lead.{Lead}
 use Rattle.sv_lexer.specs.declared.lead.Lead.TheVariants.{Blank, Letter, Digit, Dollar, Quote, Slash, Backquote, Sign, Other}
@@ -93,3 +94,8 @@ pub record IsBlankRun (n : ℕ) (text rest : List ℕ) : Type 0 where
   pub count : n ≡ length blanks
   pub blank : Each is_blank blanks
   pub stops : Stops is_blank rest
+
+-- a flaw that was found, as a fault of the definition
+abbrev pub fault_of : Option Flaw → Fault
+fault_of None = None
+fault_of (Some flaw) = Some (flaw.kind, flaw.name.now)

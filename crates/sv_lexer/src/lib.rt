@@ -3,6 +3,7 @@
 #![tactic(auto)]
 
 mod comment;
+mod fault;
 mod form;
 mod found;
 mod lead;

@@ -22,9 +22,9 @@ fn base_of(letter: u8) -> Option<Base>
 
 /// The part of a based number that says its base: `'`, an optional `s`, and the base letter.
 #[derive(Clone, Copy, Debug)]
-struct Head {
-    base: Base,
-    len: usize,
+pub struct Head {
+    pub base: Base,
+    pub len: usize,
 }
 
 fn head_with(bytes: &[u8], letter_at: usize) -> Option<Head>
@@ -39,7 +39,8 @@ fn head_with(bytes: &[u8], letter_at: usize) -> Option<Head>
     })
 }
 
-fn head_at(bytes: &[u8]) -> Option<Head>
+/// The part with the base at the front, if one begins the text.
+pub fn head_at(bytes: &[u8]) -> Option<Head>
     ensures { MatchOption result (HasNoHead bytes.now) (λ h. IsHeadAt h.base h.len bytes.now) }
 {
     if byte_at(bytes, 0) != b'\'' {
