@@ -5,3 +5,4 @@ pub mod Numbers
 pub mod Front
 pub mod Marks
 pub mod Values
+pub mod Cut

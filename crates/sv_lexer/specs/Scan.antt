@@ -6,6 +6,9 @@ use Rattle.sv_lexer.specs.Piece.{HasForm, IsLongest, HasNoForm, IsName, IsHead, 
 use Rattle.sv_lexer.specs.declared.form.Base.{Base}
 use Rattle.sv_lexer.specs.declared.form.Form.{Form}
 use Rattle.sv_lexer.specs.declared.form.Form.TheVariants as form
+use Rattle.std.specs.List.{cons_option}
+use Rattle.sv_lexer.specs.Cutting.{Piece, Stands, CutsTo, kind_of, token_of, tokens_of, ends_of}
+use Rattle.sv_lexer.specs.declared.token.Token.{Token}
 use Rattle.sv_lexer.specs.declared.fault.Flaw.{Flaw}
 use Rattle.sv_lexer.specs.declared.found.Found.{Found}
 use Rattle.sv_lexer.specs.declared.lead.Lead.{Lead}
@@ -99,3 +102,22 @@ pub record IsBlankRun (n : ℕ) (text rest : List ℕ) : Type 0 where
 abbrev pub fault_of : Option Flaw → Fault
 fault_of None = None
 fault_of (Some flaw) = Some (flaw.kind, flaw.name.now)
+
+-- ---- the loop
+
+-- the tokens that a piece of this form adds, none or one, after this many LFs
+abbrev pub added : ℕ → ℕ → Form → List ℕ → List Token
+added file ends f piece = cons_option (token_of file ends piece (kind_of f)) []
+
+-- these are the tokens of the pieces before this rest, which have this many LFs
+pub record IsSoFar (file : ℕ) (text rest : List ℕ) (tokens : List Token) (ends : ℕ) : Type 0 where
+  pub pieces : List Piece
+  pub cut : CutsTo text pieces rest
+  pub made : tokens ≡ tokens_of file 0 pieces
+  pub counted : ends ≡ ends_of pieces
+
+-- so many bytes at the front of the text are the piece that stands there
+pub record StandsAt (found : Found) (text : List ℕ) : Type 0 where
+  pub some : 0 < found.len
+  pub within : found.len ≤ length text
+  pub stands : Stands found.form (take found.len text) (drop found.len text)

@@ -7,6 +7,7 @@ mod fault;
 mod form;
 mod found;
 mod lead;
+mod lex;
 mod number;
 mod run;
 mod scan;

@@ -1,0 +1,108 @@
+ghost use Rattle.std.specs.Prelude.{◌≡◌, ◌<◌, ◌≤◌, ◌+◌, ◌++◌, length, slice_index, take, drop, MatchResult, IfOk, IfErr, OnOk};
+ghost use Rattle.sv_lexer.specs.Bytes as bytes_spec;
+ghost use Rattle.sv_lexer.specs.Cutting.{Fails, IsTokens, IsFaultOf, byte_name};
+ghost use Rattle.sv_lexer.specs.Cutting as cutting;
+ghost use Rattle.sv_lexer.specs.Scan.{StandsAt, added};
+
+use std::alloc::{AllocError, Global};
+
+use sv_base::{Kind, Name, Place, Refusal, Sequence};
+
+use crate::fault::{Flaw, flaw_of};
+use crate::form::Form;
+use crate::found::Found;
+use crate::scan::form_at;
+use crate::token::{LexFault, Token, TokenKind};
+
+fn byte_flaw(bytes: &[u8]) -> Flaw<'_>
+    requires { 0 < length bytes.now }
+    ensures kind { result.kind ≡ Kind.BadCharacter }
+    ensures name { result.name.now ≡ byte_name (slice_index bytes.now 0) }
+{
+    let name = if bytes[0].is_ascii_graphic() {
+        &bytes[..1]
+    } else {
+        &bytes[..0]
+    };
+    Flaw {
+        kind: Kind::BadCharacter,
+        name,
+    }
+}
+
+/// The piece that stands at the front of a text, or why none does.
+fn piece_at(bytes: &[u8]) -> Result<Found, Flaw<'_>>
+    requires { 0 < length bytes.now }
+    ensures { MatchResult result (λ found. StandsAt found bytes.now) (λ flaw. Fails bytes.now flaw.kind flaw.name.now) }
+{
+    let Some(found) = form_at(bytes) else {
+        return Err(byte_flaw(bytes));
+    };
+    match flaw_of(found.form, &bytes[..found.len]) {
+        Some(flaw) => Err(flaw),
+        None => Ok(found),
+    }
+}
+
+fn kind_of(form: Form) -> Option<TokenKind>
+    ensures { result ≡ cutting.kind_of form }
+{
+    match form {
+        Form::Mark => Some(TokenKind::Mark),
+        Form::Word => Some(TokenKind::Word),
+        Form::System => Some(TokenKind::System),
+        Form::Decimal | Form::Based => Some(TokenKind::Number),
+        Form::Fill => Some(TokenKind::Fill),
+        Form::Sign => Some(TokenKind::Sign),
+        Form::Blank | Form::Comment | Form::OpenComment | Form::Directive | Form::OtherDirective => None,
+    }
+}
+
+fn line_ends(text: &[u8]) -> usize
+    ensures value { result ≡ bytes_spec.line_ends text.now }
+    ensures within { result ≤ length text.now }
+{
+    let mut rest = text;
+    let mut ends = 0;
+    while let [byte, after @ ..] = rest {
+        if *byte == b'\n' {
+            ends += 1;
+        }
+        rest = after;
+    }
+    ends
+}
+
+/// The place after so many LFs. A line past the greatest that a place can hold is that one.
+fn place_at(file: u32, ends: usize) -> Place
+    ensures { result ≡ cutting.place_at file ends }
+{
+    let line = if ends < 0xffff_ffff {
+        ends as u32 + 1
+    } else {
+        0xffff_ffff
+    };
+    Place { file, line }
+}
+
+/// Adds the token that a piece is, if it is one.
+fn add_token(
+    alloc: Global,
+    tokens: &mut Sequence<Token>,
+    found: Found,
+    text: &[u8],
+    file: u32,
+    ends: usize,
+) -> Result<(), AllocError>
+    ensures { OnOk result (tokens.new ≡ tokens.old ++ added file ends found.form text.now) }
+{
+    if let Some(kind) = kind_of(found.form) {
+        let text = Name::of(alloc, text)?;
+        tokens.push(Token {
+            kind,
+            text,
+            place: place_at(file, ends),
+        })?;
+    }
+    Ok(())
+}
