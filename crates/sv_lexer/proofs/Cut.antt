@@ -7,8 +7,11 @@ use Rattle.sv_base.specs.declared.kind.Kind.{Kind}
 use Rattle.sv_base.specs.declared.kind.Kind.TheVariants as kind
 use Rattle.sv_lexer.specs.Bytes.{line_ends}
 use Rattle.sv_lexer.specs.Piece.{HasForm, HasNoForm, FaultOf}
-use Rattle.sv_lexer.specs.Cutting.{Piece, Stands, CutsTo, Fails, refused, no_form, byte_name, kind_of, token_of, tokens_of, ends_of}
-use Rattle.sv_lexer.specs.Scan.{IsFound, IsSoFar, added}
+use Rattle.sv_lexer.specs.Cutting.{Piece, Stands, CutsTo, Fails, refused, no_form, byte_name, IsFaultOf, place_at, kind_of, token_of, tokens_of, ends_of}
+use Rattle.sv_lexer.specs.Scan.{IsFound, IsSoFar, Says, added}
+use Rattle.sv_base.specs.declared.refusal.Place.{Place}
+use Rattle.sv_lexer.specs.declared.token.LexFault.{LexFault}
+use Rattle.sv_lexer.specs.declared.token.LexFault.TheVariants as fault
 use Rattle.sv_lexer.specs.declared.form.Form.{Form}
 use Rattle.sv_lexer.specs.declared.token.TokenKind.{TokenKind}
 use Rattle.sv_lexer.specs.declared.token.Token.{Token}
@@ -59,3 +62,15 @@ so_far_more file text rest tokens more ends f n so s e =
           ∙ sym (tokens_more file 0 so.pieces p);
       counted = ap (λ (k : ℕ). k + line_ends (take n rest)) so.counted ∙ sym (ends_more so.pieces p)
     }
+
+-- a fault at the rest is the text's
+pub fault_at_rest : (file : ℕ) (text rest : List ℕ) (tokens : List Token) (ends : ℕ) (k : Kind) (name : List ℕ) (place : Place) (f : LexFault) → IsSoFar file text rest tokens ends → Fails rest k name → place ≡ place_at file ends → Says k name place f → IsFaultOf file text f
+fault_at_rest file text rest tokens ends k name place (fault.Refused refusal) so h e says =
+    record {
+      pieces = so.pieces;
+      rest = rest;
+      cut = so.cut;
+      fails = subst (λ (x : Kind). Fails rest x refusal.name) (sym says.0) (subst (Fails rest k) (sym says.1) h);
+      place = says.2 ∙ e ∙ ap (place_at file) so.counted
+    }
+fault_at_rest file text rest tokens ends k name place fault.NoMemory so h e says = tt

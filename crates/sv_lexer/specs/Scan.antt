@@ -8,6 +8,10 @@ use Rattle.sv_lexer.specs.declared.form.Form.{Form}
 use Rattle.sv_lexer.specs.declared.form.Form.TheVariants as form
 use Rattle.std.specs.List.{cons_option}
 use Rattle.sv_lexer.specs.Cutting.{Piece, Stands, CutsTo, kind_of, token_of, tokens_of, ends_of}
+use Rattle.sv_base.specs.declared.kind.Kind.{Kind}
+use Rattle.sv_base.specs.declared.refusal.Place.{Place}
+use Rattle.sv_lexer.specs.declared.token.LexFault.{LexFault}
+use Rattle.sv_lexer.specs.declared.token.LexFault.TheVariants as lex_fault
 use Rattle.sv_lexer.specs.declared.token.Token.{Token}
 use Rattle.sv_lexer.specs.declared.fault.Flaw.{Flaw}
 use Rattle.sv_lexer.specs.declared.found.Found.{Found}
@@ -121,3 +125,8 @@ pub record StandsAt (found : Found) (text : List ℕ) : Type 0 where
   pub some : 0 < found.len
   pub within : found.len ≤ length text
   pub stands : Stands found.form (take found.len text) (drop found.len text)
+
+-- the fault says this, unless memory ran out
+abbrev pub Says : Kind → List ℕ → Place → LexFault → Type 0
+Says k name place (lex_fault.Refused refusal) = (refusal.kind ≡ k) × (refusal.name ≡ name) × (refusal.place ≡ place)
+Says k name place lex_fault.NoMemory = Unit {0}

@@ -7,7 +7,7 @@ mod fault;
 mod form;
 mod found;
 mod lead;
-mod lex;
+mod lexer;
 mod number;
 mod run;
 mod scan;
@@ -15,4 +15,5 @@ mod sign;
 mod token;
 mod value;
 
+pub use lexer::lex;
 pub use token::{LexFault, Token, TokenKind};

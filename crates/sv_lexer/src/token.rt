@@ -1,3 +1,7 @@
+ghost use Rattle.std.specs.Prelude.{◌≡◌};
+
+use std::alloc::AllocError;
+
 use sv_base::{Name, Place, Refusal};
 
 /// What a token is, by its spelling alone. Reserved words, used or refused, are words here, and refused signs
@@ -33,4 +37,14 @@ pub enum LexFault {
     Refused(Refusal),
     /// Memory ran out.
     NoMemory,
+}
+
+impl From<AllocError> for LexFault {
+    ghost use Rattle.sv_lexer.specs.declared.token.LexFault.TheVariants.{NoMemory};
+
+    ghost from_gives = { λ _ fault. fault ≡ NoMemory };
+
+    fn from(_error: AllocError) -> LexFault {
+        LexFault::NoMemory
+    }
 }

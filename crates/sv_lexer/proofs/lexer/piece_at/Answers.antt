@@ -1,6 +1,6 @@
 use Rattle.std.proofs.Common.{◌≡◌, ◌<◌, ◌≤◌, ℕ, List, length, take, drop, arith, refl, sym, ap, ◌∙◌}
 use Rattle.sv_lexer.proofs.Cut.{no_form_fails, refused_fails}
-use Rattle.sv_lexer.proofs.lex.piece_at.Goals as goal
+use Rattle.sv_lexer.proofs.lexer.piece_at.Goals as goal
 
 pub returns-in_default : goal.returns-in_default
 returns-in_default c = no_form_fails c.args.bytes.now c.byte_flaw.result.kind c.byte_flaw.result.name.now c.requires c.in_default.ensures c.byte_flaw.ensures.kind c.byte_flaw.ensures.name

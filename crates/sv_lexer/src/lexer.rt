@@ -2,7 +2,7 @@ ghost use Rattle.std.specs.Prelude.{◌≡◌, ◌<◌, ◌≤◌, ◌+◌, ◌+
 ghost use Rattle.sv_lexer.specs.Bytes as bytes_spec;
 ghost use Rattle.sv_lexer.specs.Cutting.{Fails, IsTokens, IsFaultOf, byte_name};
 ghost use Rattle.sv_lexer.specs.Cutting as cutting;
-ghost use Rattle.sv_lexer.specs.Scan.{StandsAt, added};
+ghost use Rattle.sv_lexer.specs.Scan.{StandsAt, Says, added};
 
 use std::alloc::{AllocError, Global};
 
@@ -105,4 +105,49 @@ fn add_token(
         })?;
     }
     Ok(())
+}
+
+fn refused(alloc: Global, flaw: Flaw<'_>, place: Place) -> LexFault
+    ensures { Says flaw.entry.kind flaw.entry.name.now place result }
+{
+    match Name::of(alloc, flaw.name) {
+        Ok(name) => LexFault::Refused(Refusal {
+            kind: flaw.kind,
+            place,
+            name,
+        }),
+        Err(_) => LexFault::NoMemory,
+    }
+}
+
+/// The text after so many bytes.
+fn after(text: &[u8], len: usize) -> &[u8]
+    requires { len ≤ length text.now }
+    ensures { result.now ≡ drop len text.now }
+{
+    &text[len..]
+}
+
+/// The tokens of a source text in order, each with its place: the words, system names, numbers, fills and
+/// signs, and the comments that mark a module. `file` is the number of the file among the words of the
+/// command, counted from 1. A text that has no tokens is refused at the first place at which nothing of the
+/// language can stand (`docs/language.md`). Takes time linear in the bytes.
+pub fn lex(alloc: Global, file: u32, bytes: &[u8]) -> Result<Sequence<Token>, LexFault>
+    ensures tokens { IfOk result (λ tokens. IsTokens file bytes.now tokens) }
+    ensures refused { IfErr result (λ fault. IsFaultOf file bytes.now fault) }
+{
+    let mut tokens = Sequence::new(alloc);
+    let mut rest = bytes;
+    let mut ends = 0;
+    while !rest.is_empty() {
+        let found = match piece_at(rest) {
+            Ok(found) => found,
+            Err(flaw) => return Err(refused(alloc, flaw, place_at(file, ends))),
+        };
+        let text = &rest[..found.len];
+        add_token(alloc, &mut tokens, found, text, file, ends)?;
+        ends += line_ends(text);
+        rest = after(rest, found.len);
+    }
+    Ok(tokens)
 }
