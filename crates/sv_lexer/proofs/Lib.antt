@@ -6,3 +6,4 @@ pub mod Front
 pub mod Marks
 pub mod Values
 pub mod Cut
+pub mod Unique

@@ -200,7 +200,7 @@ closes (c ∷ content) more =
     (r.0, rw (suc-add (length content) 1) r.1)
 
 -- a list that has a `*/` is not open
-no_close_absurd : (content more : List ℕ) → HasNoClose (content ++ 42 ∷ 47 ∷ more) → ⊥
+pub no_close_absurd : (content more : List ℕ) → HasNoClose (content ++ 42 ∷ 47 ∷ more) → ⊥
 no_close_absurd content more h = let r = closes content more in h (length content) r.0 r.1
 
 -- a comment that is closed has no `*/` before its last

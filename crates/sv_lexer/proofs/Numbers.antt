@@ -18,7 +18,7 @@ use Rattle.sv_lexer.specs.declared.lead.Lead.TheVariants.{Blank, Letter, Digit, 
 
 -- ---- the base part
 
-no_base : (l : ℕ) (base : Base) → base_of l ≡ Some base → base_of l ≡ None → ⊥
+pub no_base : (l : ℕ) (base : Base) → base_of l ≡ Some base → base_of l ≡ None → ⊥
 no_base l base h k = cc
 
 -- `s` is no base letter
