@@ -167,3 +167,98 @@ one_fault form.Mark piece a b h k = h ∙ sym k
 one_fault form.Directive piece a b h k = h ∙ sym k
 one_fault form.Fill piece a b h k = h ∙ sym k
 one_fault form.Sign piece a b h k = h ∙ sym k
+
+-- ---- a text is cut in one way
+
+-- of two fronts of one text one is the front of the other
+fronts : (p q a b : List ℕ) → p ++ a ≡ q ++ b → ((m : List ℕ) × (q ≡ p ++ m) × (a ≡ m ++ b)) ⊎ ((m : List ℕ) × (p ≡ q ++ m) × (b ≡ m ++ a))
+fronts [] q a b e = inl (q, refl, e)
+fronts (x ∷ p) [] a b e = inr (x ∷ p, refl, sym e)
+fronts (x ∷ p) (y ∷ q) a b e =
+    elim (fronts p q a b (tail_eq e)) [
+        inl r ↦ inl (r.0, ap (λ (v : ℕ). v ∷ q) (sym (head_eq e)) ∙ ap (λ (v : List ℕ). x ∷ v) r.1, r.2)
+      | inr r ↦ inr (r.0, ap (λ (v : ℕ). v ∷ p) (head_eq e) ∙ ap (λ (v : List ℕ). y ∷ v) r.1, r.2)
+    ]
+
+-- the longest piece is one
+pub longest_agree : (f g : Form) (p q a b : List ℕ) → HasForm f p → HasForm g q → IsLongest p a → IsLongest q b → p ++ a ≡ q ++ b → (p ≡ q) × (a ≡ b)
+longest_agree f g p q a b h k l m e =
+    elim (fronts p q a b e) [
+        inl r ↦ let none : r.0 ≡ [] = l g r.0 b r.2 (subst (HasForm g) r.1 k) in
+            (sym (r.1 ∙ ap (λ (v : List ℕ). p ++ v) none ∙ append-nil p), r.2 ∙ ap (λ (v : List ℕ). v ++ b) none)
+      | inr r ↦ let none : r.0 ≡ [] = m f r.0 a r.2 (subst (HasForm f) r.1 h) in
+            (r.1 ∙ ap (λ (v : List ℕ). q ++ v) none ∙ append-nil q, sym (r.2 ∙ ap (λ (v : List ℕ). v ++ a) none))
+    ]
+
+-- no piece stands here
+abbrev pub IsEnd : List ℕ → Type 0
+IsEnd text = (f : Form) (piece after : List ℕ) → text ≡ piece ++ after → Stands f piece after → ⊥
+
+empty_end : IsEnd []
+empty_end f [] after e s = no_empty f s.has_form
+empty_end f (b ∷ piece) after e s = cc
+
+fails_end : (text : List ℕ) (k : Kind) (name : List ℕ) → Fails text k name → IsEnd text
+fails_end text k name (refused g piece rest e h l fault) f p after x s =
+    let same = longest_agree g f piece p rest after h s.has_form l s.longest (sym e ∙ x) in
+    let form_is : g ≡ f = one_form g f piece h (subst (HasForm f) (sym same.0) s.has_form) in
+    let none : FaultOf f p None = s.allowed in
+    let fine : FaultOf g piece None = subst (λ (v : Form). FaultOf v piece None) (sym form_is) (subst (λ (v : List ℕ). FaultOf f v None) (sym same.0) none) in
+    let z = one_fault g piece (Some (k, name)) None fault fine in
+    cc
+fails_end text k name (no_form b rest e none kk nn) f p after x s = none f p after x s.has_form
+
+-- two cuttings of one text that go on as far as they can are one
+pub cuts_agree : (text : List ℕ) (ps qs : List Piece) (r s : List ℕ) → CutsTo text ps r → CutsTo text qs s → IsEnd r → IsEnd s → (ps ≡ qs) × (r ≡ s)
+cuts_agree text [] [] r s c d x y = (refl, sym c ∙ d)
+cuts_agree text [] (q ∷ qs) r s c d x y = absurd (x q.0 q.1 d.0 (sym c ∙ d.1) d.2)
+cuts_agree text (p ∷ ps) [] r s c d x y = absurd (y p.0 p.1 c.0 (sym d ∙ c.1) c.2)
+cuts_agree text (p ∷ ps) (q ∷ qs) r s c d x y =
+    let same = longest_agree p.0 q.0 p.1 q.1 c.0 d.0 c.2.has_form d.2.has_form c.2.longest d.2.longest (sym c.1 ∙ d.1) in
+    let form_is : p.0 ≡ q.0 = one_form p.0 q.0 p.1 c.2.has_form (subst (HasForm q.0) (sym same.0) d.2.has_form) in
+    let rest = cuts_agree d.0 ps qs r s (subst (λ (v : List ℕ). CutsTo v ps r) same.1 c.3) d.3 x y in
+    let piece : p ≡ q = ap (λ (v : Form). let z : Piece = (v, p.1) in z) form_is ∙ ap (λ (v : List ℕ). let z : Piece = (q.0, v) in z) same.0 in
+    (ap (λ (v : Piece). v ∷ ps) piece ∙ ap (λ (v : List Piece). q ∷ v) rest.0, rest.1)
+
+-- ---- the laws
+
+pub one_list_lem : (file : ℕ) (text : List ℕ) (a b : List Token) → IsTokens file text a → IsTokens file text b → a ≡ b
+one_list_lem file text a b h k =
+    let same = cuts_agree text h.0 k.0 [] [] h.1 k.1 empty_end empty_end in
+    h.2 ∙ ap (tokens_of file 0) same.0 ∙ sym k.2
+
+some_fault : (a b : Kind × List ℕ) → ◌≡◌ {A = Fault} (Some a) (Some b) → (a.0 ≡ b.0) × (a.1 ≡ b.1)
+some_fault a b e = let z : a ≡ b = cc in (ap (λ (v : Kind × List ℕ). v.0) z, ap (λ (v : Kind × List ℕ). v.1) z)
+
+fails_agree : (text : List ℕ) (j k : Kind) (m n : List ℕ) → Fails text j m → Fails text k n → (j ≡ k) × (m ≡ n)
+fails_agree text j k m n (refused f p a e h l x) (refused g q b d i o y) =
+    let same = longest_agree f g p q a b h i l o (sym e ∙ d) in
+    let form_is : f ≡ g = one_form f g p h (subst (HasForm g) (sym same.0) i) in
+    let other : FaultOf f p (Some (k, n)) = subst (λ (v : Form). FaultOf v p (Some (k, n))) (sym form_is) (subst (λ (v : List ℕ). FaultOf g v (Some (k, n))) (sym same.0) y) in
+    some_fault (j, m) (k, n) (one_fault f p (Some (j, m)) (Some (k, n)) x other)
+fails_agree text j k m n (refused f p a e h l x) (no_form b rest d none kk nn) = absurd (none f p a e h)
+fails_agree text j k m n (no_form b rest e none kk nn) (refused g q a d i o y) = absurd (none g q a d i)
+fails_agree text j k m n (no_form b rest e none kk nn) (no_form c other d off jj mm) =
+    (kk ∙ sym jj, nn ∙ ap byte_name (head_eq (sym e ∙ d)) ∙ sym mm)
+
+same_refusal : (a b : Refusal) → a.kind ≡ b.kind → a.place ≡ b.place → a.name ≡ b.name → a ≡ b
+same_refusal a b e f g =
+    ap (λ (v : Kind). let r : Refusal = record { kind = v; place = a.place; name = a.name } in r) e
+    ∙ ap (λ (v : Place). let r : Refusal = record { kind = b.kind; place = v; name = a.name } in r) f
+    ∙ ap (λ (v : List ℕ). let r : Refusal = record { kind = b.kind; place = b.place; name = v } in r) g
+
+pub one_refusal_lem : (file : ℕ) (text : List ℕ) (a b : Refusal) → IsRefused file text a → IsRefused file text b → a ≡ b
+one_refusal_lem file text a b h k =
+    let same = cuts_agree text h.pieces k.pieces h.rest k.rest h.cut k.cut (fails_end h.rest a.kind a.name h.fails) (fails_end k.rest b.kind b.name k.fails) in
+    let fault = fails_agree h.rest a.kind b.kind a.name b.name h.fails (subst (λ (v : List ℕ). Fails v b.kind b.name) (sym same.1) k.fails) in
+    same_refusal a b fault.0 (h.place ∙ ap (λ (v : List Piece). place_at file (ends_of v)) same.0 ∙ sym k.place) fault.1
+
+empty_fails : (k : Kind) (name : List ℕ) → Fails [] k name → ⊥
+empty_fails k name (refused f [] rest e h l x) = no_empty f h
+empty_fails k name (refused f (b ∷ piece) rest e h l x) = cc
+empty_fails k name (no_form b rest e none kk nn) = cc
+
+pub not_both_lem : (file : ℕ) (text : List ℕ) (tokens : List Token) (refusal : Refusal) → IsTokens file text tokens → IsRefused file text refusal → ⊥
+not_both_lem file text tokens refusal h k =
+    let same = cuts_agree text h.0 k.pieces [] k.rest h.1 k.cut empty_end (fails_end k.rest refusal.kind refusal.name k.fails) in
+    empty_fails refusal.kind refusal.name (subst (λ (v : List ℕ). Fails v refusal.kind refusal.name) (sym same.1) k.fails)

@@ -6,6 +6,7 @@ mod comment;
 mod fault;
 mod form;
 mod found;
+mod laws;
 mod lead;
 mod lexer;
 mod number;
@@ -15,5 +16,6 @@ mod sign;
 mod token;
 mod value;
 
+pub use laws::{not_both, one_list, one_refusal};
 pub use lexer::lex;
 pub use token::{LexFault, Token, TokenKind};
