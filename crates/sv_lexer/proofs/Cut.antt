@@ -1,19 +1,17 @@
 -- a cutting, piece by piece
-use Rattle.std.proofs.Common.{◌≡◌, ℕ, zero, suc, ◌+◌, ◌<◌, ◌≤◌, List, [], ◌∷◌, ◌++◌, length, get_or, take, drop, refl, sym, ◌∙◌, ap, subst, arith, Option, Some, None}
+use Rattle.std.proofs.Common.{◌≡◌, ℕ, ◌+◌, ◌<◌, List, [], ◌∷◌, ◌++◌, length, get_or, take, drop, refl, sym, ◌∙◌, ap, subst, arith, Option, Some, None}
 use Rattle.std.specs.List.{cons_option}
-use Rattle.std.proofs.lemmas.List.{append_assoc, append-nil, take-append-drop}
-use Rattle.std.proofs.Math.Nat.{add_assoc}
+use Rattle.std.proofs.lemmas.List.{take-append-drop}
 use Rattle.sv_base.specs.declared.kind.Kind.{Kind}
 use Rattle.sv_base.specs.declared.kind.Kind.TheVariants as kind
 use Rattle.sv_lexer.specs.Bytes.{line_ends}
-use Rattle.sv_lexer.specs.Piece.{HasForm, HasNoForm, FaultOf}
+use Rattle.sv_lexer.specs.Piece.{HasNoForm, FaultOf}
 use Rattle.sv_lexer.specs.Cutting.{Piece, Stands, CutsTo, Fails, refused, no_form, byte_name, IsFaultOf, place_at, kind_of, token_of, tokens_of, ends_of}
 use Rattle.sv_lexer.specs.Scan.{IsFound, IsSoFar, Says, added}
 use Rattle.sv_base.specs.declared.refusal.Place.{Place}
 use Rattle.sv_lexer.specs.declared.token.LexFault.{LexFault}
 use Rattle.sv_lexer.specs.declared.token.LexFault.TheVariants as fault
 use Rattle.sv_lexer.specs.declared.form.Form.{Form}
-use Rattle.sv_lexer.specs.declared.token.TokenKind.{TokenKind}
 use Rattle.sv_lexer.specs.declared.token.Token.{Token}
 
 pub no_form_fails : (s : List ℕ) (k : Kind) (name : List ℕ) → 0 < length s → HasNoForm s → k ≡ kind.BadCharacter → name ≡ byte_name (get_or s 0 0) → Fails s k name
@@ -60,7 +58,7 @@ so_far_more file text rest tokens more ends f n so s e =
       made = e ∙ ap (λ (ts : List Token). ts ++ added file ends f (take n rest)) so.made
           ∙ ap (λ (k : ℕ). tokens_of file 0 so.pieces ++ added file k f (take n rest)) (so.counted ∙ (let z : ends_of so.pieces ≡ 0 + ends_of so.pieces = omega arith in z))
           ∙ sym (tokens_more file 0 so.pieces p);
-      counted = ap (λ (k : ℕ). k + line_ends (take n rest)) so.counted ∙ sym (ends_more so.pieces p)
+      counted = ap (λ (k : ℕ). k + line_ends (take n rest)) so.counted ∙ sym (ends_more so.pieces p);
     }
 
 -- a fault at the rest is the text's
@@ -71,6 +69,6 @@ fault_at_rest file text rest tokens ends k name place (fault.Refused refusal) so
       rest = rest;
       cut = so.cut;
       fails = subst (λ (x : Kind). Fails rest x refusal.name) (sym says.0) (subst (Fails rest k) (sym says.1) h);
-      place = says.2 ∙ e ∙ ap (place_at file) so.counted
+      place = says.2 ∙ e ∙ ap (place_at file) so.counted;
     }
 fault_at_rest file text rest tokens ends k name place fault.NoMemory so h e says = tt

@@ -1,23 +1,21 @@
 -- the pieces at the front of a text, by their lengths
-use Rattle.std.proofs.Common.{◌≡◌, ◌≢◌, ◌⊎◌, ℕ, zero, suc, ◌+◌, ◌-◌, ◌<◌, ◌≤◌, Bool, true, false, cond, eqb, List, [], ◌∷◌, ◌++◌, length, get_or, take, drop, refl, sym, ◌∙◌, ap, subst, inl, inr, arith, rules, Option, Some, None}
+use Rattle.std.proofs.Common.{◌≡◌, ◌⊎◌, ℕ, zero, suc, ◌+◌, ◌<◌, ◌≤◌, true, false, List, [], ◌∷◌, ◌++◌, length, get_or, take, drop, refl, sym, ◌∙◌, ap, subst, inl, inr, arith}
 use Rattle.std.proofs.Math.Seq.{take-add, drop-length}
 use Rattle.std.proofs.Math.Nat.{suc-add}
 use Rattle.std.proofs.Math.Numerals.{add-one}
-use Rattle.std.proofs.lemmas.List.{append_assoc, append-nil, drop-drop, take-append-drop, length-drop, length-take, take_more, take_all, length-take-le, get_or-take, get_or_past}
-use Rattle.std.proofs.lemmas.Bool.{eqb-true, cases_lt}
+use Rattle.std.proofs.lemmas.List.{drop-drop, take-append-drop, length-drop, length-take, take_more, take_all, length-take-le, get_or-take, get_or_past}
+use Rattle.std.proofs.lemmas.Bool.{cases_lt}
 use Rattle.std.specs.Char.{is_ascii_digit}
 use Rattle.sv_lexer.specs.Bytes.{Each, Stops, is_blank, is_in_line, is_name_start, is_name_byte, is_decimal_byte, is_digit_of, is_based_byte}
-use Rattle.sv_lexer.specs.Piece.{HasForm, HasNoForm, IsLongest, IsName, IsDecimal, IsDigits, IsHead, HasNoClose, is_skipped, is_sign}
-use Rattle.sv_lexer.specs.Scan.{lead_of, IsFound, IsFoundAt, IsNameAt, IsCommentForm, ClosesAt, IsTail, IsLongestTail, IsTailAt, IsHeadAt, HasNoHead, DigitsStop}
-use Rattle.sv_lexer.proofs.Runs.{Each-append, clash, stops_here, Stops-front, runs_agree, head_eq, tail_eq}
-use Rattle.sv_lexer.proofs.Leads.{quote_lead, blank_lead}
+use Rattle.sv_lexer.specs.Piece.{HasNoForm, IsDigits, HasNoClose, is_skipped, is_sign}
+use Rattle.sv_lexer.specs.Scan.{lead_of, IsFoundAt, IsNameAt, IsCommentForm, ClosesAt, IsTail, IsTailAt, IsHeadAt, HasNoHead, DigitsStop}
+use Rattle.sv_lexer.proofs.Runs.{clash, head_eq, tail_eq}
+use Rattle.sv_lexer.proofs.Leads.{blank_lead}
 use Rattle.sv_lexer.proofs.Longest.{start_is_name_byte, other_no_form, system_none, directive_none, blank_found, word_found, system_found, sign_found, slash_found, line_found, block_found, open_found, directive_found, other_directive_found}
 use Rattle.sv_lexer.proofs.Numbers.{digit_is_byte, tail_first, tail_found, sized_found, decimal_found, unsized_found, fill_found, quote_none}
 use Rattle.sv_lexer.specs.declared.form.Base.{Base}
 use Rattle.sv_lexer.specs.declared.form.Form.{Form}
 use Rattle.sv_lexer.specs.declared.form.Form.TheVariants as form
-use Rattle.sv_lexer.specs.declared.found.Found.{Found}
-use Rattle.sv_lexer.specs.declared.lead.Lead.{Lead}
 use Rattle.sv_lexer.specs.declared.lead.Lead.TheVariants.{Sign, Other}
 
 -- ---- numbers
@@ -34,7 +32,7 @@ tail_at base n m s h le d st =
     let w = h.within in
     record {
       within = omega arith;
-      longest_tail = rw (take-add n m s, ← drop-drop m n s) (tail_found base (take n s) (take m (drop n s)) (drop m (drop n s)) h.is_head d st)
+      longest_tail = rw (take-add n m s, ← drop-drop m n s) (tail_found base (take n s) (take m (drop n s)) (drop m (drop n s)) h.is_head d st);
     }
 
 pub sized_at : (n m : ℕ) (s : List ℕ) → 0 < length s → is_ascii_digit (get_or s 0 0) ≡ true → n ≤ length s → Each is_decimal_byte (take n s) → Stops is_decimal_byte (drop n s) → IsTailAt m (drop n s) → IsFoundAt (record { form = form.Based; len = n + m }) s
@@ -46,7 +44,7 @@ sized_at (suc n) m (b ∷ s) some d le r st t =
     record {
       some = omega arith;
       within = omega arith;
-      is_found = rw (take-add (suc n) m (b ∷ s), ← drop-drop m (suc n) (b ∷ s)) (sized_found b (take n s) (take m (drop n s)) (drop m (drop n s)) (d, r.1) t.longest_tail)
+      is_found = rw (take-add (suc n) m (b ∷ s), ← drop-drop m (suc n) (b ∷ s)) (sized_found b (take n s) (take m (drop n s)) (drop m (drop n s)) (d, r.1) t.longest_tail);
     }
 
 pub decimal_at : (n : ℕ) (s : List ℕ) → 0 < length s → is_ascii_digit (get_or s 0 0) ≡ true → n ≤ length s → Each is_decimal_byte (take n s) → Stops is_decimal_byte (drop n s) → HasNoHead (drop n s) → IsFoundAt (record { form = form.Decimal; len = n }) s
@@ -58,8 +56,8 @@ decimal_at (suc n) (b ∷ s) some d le r st none =
 tail_some : (n : ℕ) (s : List ℕ) → IsTailAt n s → 0 < n
 tail_some zero s t = let h = t.longest_tail.is_tail in absurd (no_tail h)
   where
-  no_tail : IsTail [] → ⊥
-  no_tail h = let r = tail_first [] h in let e = r.1 in cc
+    no_tail : IsTail [] → ⊥
+    no_tail h = let r = tail_first [] h in let e = r.1 in cc
 tail_some (suc n) s t = omega arith
 
 pub unsized_at : (n : ℕ) (s : List ℕ) → IsTailAt n s → IsFoundAt (record { form = form.Based; len = n }) s
@@ -73,7 +71,7 @@ fill_at (q ∷ b ∷ s) e h none =
     record {
       some = omega arith;
       within = omega arith;
-      is_found = rw first (fill_found b s h (subst (λ (x : ℕ). HasNoHead (x ∷ b ∷ s)) first none))
+      is_found = rw first (fill_found b s h (subst (λ (x : ℕ). HasNoHead (x ∷ b ∷ s)) first none));
     }
 
 pub quote_none_at : (s : List ℕ) → s ≡ 39 ∷ drop 1 s → (get_or s 1 0 ≡ 48 → ⊥) → (get_or s 1 0 ≡ 49 → ⊥) → HasNoHead s → HasNoForm s
@@ -82,9 +80,9 @@ quote_none_at (q ∷ s) e no_0 no_1 none =
     let first : q ≡ 39 = head_eq e in
     rw first (quote_none s (subst (λ (x : ℕ). HasNoHead (x ∷ s)) first none) (λ b r x h. no_fill b r x h))
   where
-  no_fill : (b : ℕ) (r : List ℕ) → s ≡ b ∷ r → (b ≡ 48) ⊎ (b ≡ 49) → ⊥
-  no_fill b r x (inl h) = no_0 (ap (λ (v : List ℕ). get_or v 0 0) x ∙ h)
-  no_fill b r x (inr h) = no_1 (ap (λ (v : List ℕ). get_or v 0 0) x ∙ h)
+    no_fill : (b : ℕ) (r : List ℕ) → s ≡ b ∷ r → (b ≡ 48) ⊎ (b ≡ 49) → ⊥
+    no_fill b r x (inl h) = no_0 (ap (λ (v : List ℕ). get_or v 0 0) x ∙ h)
+    no_fill b r x (inr h) = no_1 (ap (λ (v : List ℕ). get_or v 0 0) x ∙ h)
 
 -- ---- comments
 
@@ -103,7 +101,7 @@ line_at f n (a ∷ b ∷ s) e le c h st =
     record {
       some = omega arith;
       within = omega arith;
-      is_found = rw (two n, first, second) (line_found f (take n s) (drop n s) c h st)
+      is_found = rw (two n, first, second) (line_found f (take n s) (drop n s) c h st);
     }
 
 -- the front up to two known bytes
@@ -120,7 +118,7 @@ front_no_close n s h k star slash =
     let star' : get_or (take (n + 1) s) k 0 ≡ 42 = ap (λ (t : List ℕ). get_or t k 0) (sym front) ∙ star in
     let slash' : get_or (take (n + 1) s) (k + 1) 0 ≡ 47 = ap (λ (t : List ℕ). get_or t (k + 1) 0) (sym front) ∙ slash in
     elim (cases_lt (k + 1) (n + 1)) [
-        inl lt ↦ h.first k (omega arith) (sym (get_or-take (n + 1) s k 0 (omega arith)) ∙ star') (sym (get_or-take (n + 1) s (k + 1) 0 lt) ∙ slash')
+      | inl lt ↦ h.first k (omega arith) (sym (get_or-take (n + 1) s k 0 (omega arith)) ∙ star') (sym (get_or-take (n + 1) s (k + 1) 0 lt) ∙ slash')
       | inr past ↦ let size = length-take (n + 1) s in
           let none : get_or (take (n + 1) s) (k + 1) 0 ≡ 0 = get_or_past (take (n + 1) s) (k + 1) 0 (omega arith) in absurd (omega arith)
     ]
@@ -135,7 +133,7 @@ block_at f n (a ∷ b ∷ s) e h c =
     record {
       some = omega arith;
       within = omega arith;
-      is_found = rw (four n, first, second, take_two n s 42 47 h.within h.star h.slash) (block_found f (take n s) (drop (suc (suc n)) s) c (front_no_close n s h))
+      is_found = rw (four n, first, second, take_two n s 42 47 h.within h.star h.slash) (block_found f (take n s) (drop (suc (suc n)) s) c (front_no_close n s h));
     }
 
 pub open_at : (s : List ℕ) → s ≡ 47 ∷ 42 ∷ drop 2 s → HasNoClose (drop 2 s) → IsFoundAt (record { form = form.OpenComment; len = length s }) s
@@ -147,7 +145,7 @@ open_at (a ∷ b ∷ s) e h =
     record {
       some = omega arith;
       within = omega arith;
-      is_found = rw (take_all (length (a ∷ b ∷ s)) (a ∷ b ∷ s) (omega arith), drop-length, first, second) (open_found s h)
+      is_found = rw (take_all (length (a ∷ b ∷ s)) (a ∷ b ∷ s) (omega arith), drop-length, first, second) (open_found s h);
     }
 
 -- ---- names, directives, slashes
@@ -182,7 +180,7 @@ directive_at n m (a ∷ s) e h w le r st =
     record {
       some = omega arith;
       within = omega arith;
-      is_found = rw (add-one, first, take-add n m s, ← drop-drop m n s) (directive_found (take n s) (take m (drop n s)) (drop m (drop n s)) w stop r st)
+      is_found = rw (add-one, first, take-add n m s, ← drop-drop m n s) (directive_found (take n s) (take m (drop n s)) (drop m (drop n s)) w stop r st);
     }
 
 pub other_directive_at : (n : ℕ) (s : List ℕ) → s ≡ 96 ∷ drop 1 s → IsNameAt n (drop 1 s) → is_skipped (take n (drop 1 s)) ≡ false → IsFoundAt (record { form = form.OtherDirective; len = n + 1 }) s
@@ -207,7 +205,7 @@ slash_at (a ∷ s) e no_line no_block =
     record {
       some = omega arith;
       within = omega arith;
-      is_found = rw first (slash_found s (λ t x. no_line (ap (λ (v : List ℕ). get_or v 0 0) x)) (λ t x. no_block (ap (λ (v : List ℕ). get_or v 0 0) x)))
+      is_found = rw first (slash_found s (λ t x. no_line (ap (λ (v : List ℕ). get_or v 0 0) x)) (λ t x. no_block (ap (λ (v : List ℕ). get_or v 0 0) x)));
     }
 
 pub blank_at : (s : List ℕ) → 0 < length s → is_blank (get_or s 0 0) ≡ true → IsFoundAt (record { form = form.Blank; len = 1 }) s
@@ -224,7 +222,7 @@ sign_at (suc n) (b ∷ s) l some le h none =
       some = some;
       within = le;
       is_found = sign_found b (take n s) (drop n s) l h (λ m lt within.
-          subst (λ (t : List ℕ). is_sign (take m t) ≡ false) (sym whole) (none m (omega arith) (subst (λ (t : List ℕ). m ≤ length t) whole within)))
+          subst (λ (t : List ℕ). is_sign (take m t) ≡ false) (sym whole) (none m (omega arith) (subst (λ (t : List ℕ). m ≤ length t) whole within)));
     }
 
 pub first_is : (s : List ℕ) (b : ℕ) → 0 < length s → get_or s 0 0 ≡ b → s ≡ b ∷ drop 1 s

@@ -1,13 +1,13 @@
 -- the first byte of a piece, and the forms that it leads to
-use Rattle.std.proofs.Common.{◌≡◌, ◌⊎◌, ℕ, zero, suc, ◌+◌, ◌<◌, ◌≤◌, Bool, true, false, not, cond, eqb, leb, ◌||◌, ◌&&◌, List, [], ◌∷◌, ◌++◌, length, get_or, refl, sym, ◌∙◌, ap, subst, inl, inr, arith, rules}
+use Rattle.std.proofs.Common.{◌≡◌, ◌⊎◌, ℕ, Bool, true, false, cond, eqb, List, [], ◌∷◌, ◌++◌, refl, sym, ◌∙◌, ap, subst, inl, inr, arith}
 use Rattle.std.specs.List.{list_any, list_all}
 use Rattle.std.specs.Str.{bytes_eq}
 use Rattle.std.specs.Char.{is_ascii_digit}
-use Rattle.std.proofs.lemmas.Bool.{eqb-true, or_cases, or_from, and_parts, cond-true, cond-false}
+use Rattle.std.proofs.lemmas.Bool.{eqb-true, or_cases, and_parts, cond-true, cond-false}
 use Rattle.std.proofs.lemmas.Bool.Decides.{nat_tests}
 use Rattle.std.proofs.lemmas.Slice.Eq.{bytes_eq-Decides}
-use Rattle.sv_lexer.specs.Bytes.{Each, Stops, is_blank, is_name_start, is_name_byte}
-use Rattle.sv_lexer.specs.Piece.{HasForm, IsHead, IsDecimal, IsBased, signs, is_sign}
+use Rattle.sv_lexer.specs.Bytes.{is_blank, is_name_start}
+use Rattle.sv_lexer.specs.Piece.{HasForm, IsHead, IsDecimal, signs, is_sign}
 use Rattle.sv_lexer.specs.declared.form.Base.{Base}
 use Rattle.sv_lexer.specs.Scan.{lead_of}
 use Rattle.sv_lexer.specs.declared.form.Form.{Form}
@@ -38,17 +38,17 @@ pub blank_lead : (b : ℕ) → is_blank b ≡ true → lead_of b ≡ Blank
 unfolding lead_of is_sign
 blank_lead b h =
     elim (or_cases _ (eqb b 13) h) [
-        inr e ↦ rw (eqb-true b 13 e) refl
+      | inr e ↦ rw (eqb-true b 13 e) refl
       | inl h3 ↦ elim (or_cases _ (eqb b 12) h3) [
-            inr e ↦ rw (eqb-true b 12 e) refl
-          | inl h2 ↦ elim (or_cases _ (eqb b 10) h2) [
-                inr e ↦ rw (eqb-true b 10 e) refl
-              | inl h1 ↦ elim (or_cases (eqb b 32) (eqb b 9) h1) [
-                    inl e ↦ rw (eqb-true b 32 e) refl
-                  | inr e ↦ rw (eqb-true b 9 e) refl
-                ]
-            ]
+        | inr e ↦ rw (eqb-true b 12 e) refl
+        | inl h2 ↦ elim (or_cases _ (eqb b 10) h2) [
+          | inr e ↦ rw (eqb-true b 10 e) refl
+          | inl h1 ↦ elim (or_cases (eqb b 32) (eqb b 9) h1) [
+            | inl e ↦ rw (eqb-true b 32 e) refl
+            | inr e ↦ rw (eqb-true b 9 e) refl
+          ]
         ]
+      ]
     ]
 
 pub letter_lead : (b : ℕ) → is_name_start b ≡ true → lead_of b ≡ Letter
@@ -84,7 +84,7 @@ sign_passes test [] piece h k = absurd (cc)
 sign_passes test (s ∷ table) piece h k =
     let parts : (test s ≡ true) × (list_all test table ≡ true) = and_parts (test s) (list_all test table) h in
     elim (or_cases (bytes_eq s piece) (list_any (λ sign. bytes_eq sign piece) table) k) [
-        inl e ↦ subst (λ (x : List ℕ). test x ≡ true) ((bytes_eq-Decides s piece).0 e) parts.0
+      | inl e ↦ subst (λ (x : List ℕ). test x ≡ true) ((bytes_eq-Decides s piece).0 e) parts.0
       | inr e ↦ sign_passes test table piece parts.1 e
     ]
 
@@ -105,11 +105,11 @@ sign_lead b more h = sign_passes leads_sign signs (b ∷ more) signs_lead h
 pub head_first : (base : Base) (head digits : List ℕ) → IsHead base head → (rest : List ℕ) × (head ++ digits ≡ 39 ∷ rest)
 head_first base head digits h =
     elim h.2 [
-        inl e ↦ (_, ap (λ (x : List ℕ). x ++ digits) e)
+      | inl e ↦ (_, ap (λ (x : List ℕ). x ++ digits) e)
       | inr r ↦ elim r [
-            inl e ↦ (_, ap (λ (x : List ℕ). x ++ digits) e)
-          | inr e ↦ (_, ap (λ (x : List ℕ). x ++ digits) e)
-        ]
+        | inl e ↦ (_, ap (λ (x : List ℕ). x ++ digits) e)
+        | inr e ↦ (_, ap (λ (x : List ℕ). x ++ digits) e)
+      ]
     ]
 
 -- a based number begins with a digit or `'`
@@ -149,12 +149,12 @@ lead form.Blank b more h =
     ap (leads form.Blank) (blank_lead b (subst (λ (x : ℕ). is_blank x ≡ true) e h.2))
 lead form.Comment b more h =
     elim h.1 [
-        inl k ↦ let e : b ≡ 47 = let x = k.0 in cc in ap (λ (x : ℕ). leads form.Comment (lead_of x)) e ∙ ap (leads form.Comment) slash_lead
+      | inl k ↦ let e : b ≡ 47 = let x = k.0 in cc in ap (λ (x : ℕ). leads form.Comment (lead_of x)) e ∙ ap (leads form.Comment) slash_lead
       | inr k ↦ let e : b ≡ 47 = let x = k.0 in cc in ap (λ (x : ℕ). leads form.Comment (lead_of x)) e ∙ ap (leads form.Comment) slash_lead
     ]
 lead form.Mark b more h =
     elim h.1 [
-        inl k ↦ let e : b ≡ 47 = let x = k.0 in cc in ap (λ (x : ℕ). leads form.Mark (lead_of x)) e ∙ ap (leads form.Mark) slash_lead
+      | inl k ↦ let e : b ≡ 47 = let x = k.0 in cc in ap (λ (x : ℕ). leads form.Mark (lead_of x)) e ∙ ap (leads form.Mark) slash_lead
       | inr k ↦ let e : b ≡ 47 = let x = k.0 in cc in ap (λ (x : ℕ). leads form.Mark (lead_of x)) e ∙ ap (leads form.Mark) slash_lead
     ]
 lead form.OpenComment b more h =
@@ -171,12 +171,12 @@ lead form.Based b more h =
     let r = based_first (b ∷ more) h.0 h.3.head h.2 h.1 h.3.whole h.3.size_form h.3.head_form in
     let e : r.0 ≡ b = let x = r.2 in cc in
     elim r.3 [
-        inl k ↦ ap (leads form.Based) (digit_lead b (subst (λ (x : ℕ). is_ascii_digit x ≡ true) e k))
+      | inl k ↦ ap (leads form.Based) (digit_lead b (subst (λ (x : ℕ). is_ascii_digit x ≡ true) e k))
       | inr k ↦ ap (λ (x : ℕ). leads form.Based (lead_of x)) (sym e ∙ k) ∙ ap (leads form.Based) quote_lead
     ]
 lead form.Fill b more h =
     elim h [
-        inl k ↦ let e : b ≡ 39 = cc in ap (λ (x : ℕ). leads form.Fill (lead_of x)) e ∙ ap (leads form.Fill) quote_lead
+      | inl k ↦ let e : b ≡ 39 = cc in ap (λ (x : ℕ). leads form.Fill (lead_of x)) e ∙ ap (leads form.Fill) quote_lead
       | inr k ↦ let e : b ≡ 39 = cc in ap (λ (x : ℕ). leads form.Fill (lead_of x)) e ∙ ap (leads form.Fill) quote_lead
     ]
 lead form.Sign b more h = sign_lead b more h

@@ -1,5 +1,5 @@
 -- blanks and words of a mark, each where it must be
-use Rattle.std.proofs.Common.{◌≡◌, ◌≢◌, ◌⊎◌, ℕ, zero, suc, ◌+◌, ◌-◌, ◌<◌, ◌≤◌, Bool, true, false, List, [], ◌∷◌, ◌++◌, length, get_or, take, drop, refl, sym, ◌∙◌, ap, subst, inl, inr, arith, rules}
+use Rattle.std.proofs.Common.{◌≡◌, ◌≢◌, ℕ, ◌-◌, ◌<◌, ◌≤◌, List, [], ◌∷◌, ◌++◌, length, take, drop, refl, sym, ◌∙◌, ap, arith}
 use Rattle.std.specs.Prelude.{codes}
 use Rattle.std.proofs.lemmas.List.{append_assoc, append-nil, append_cancel_left, take-append-drop, take_rest, length-take}
 use Rattle.sv_lexer.specs.Bytes.{Each, Stops, is_blank}
@@ -15,7 +15,7 @@ blank_run n s le h st =
       whole = rw take_rest (sym (take-append-drop n s));
       count = omega arith;
       blank = h;
-      stops = rw take_rest st
+      stops = rw take_rest st;
     }
 
 -- a text begins with its blanks in one way
@@ -57,9 +57,9 @@ mark_ends a b c content t1 t2 t3 t4 t5 r e s f u m =
     let between = after_between b t2 t3 content m s (after_first t1 t2 content m (after_blanks a content t1 r m) e) in
     (some_between m.between m.parted b between.0, after_last c t4 t5 content m u (after_second t3 t4 content m between.1 f))
   where
-  some_between : (between : List ℕ) → between ≢ [] → (n : ℕ) → n ≡ length between → 0 < n
-  some_between [] some n e = absurd (some refl)
-  some_between (x ∷ xs) some n e = omega arith
+    some_between : (between : List ℕ) → between ≢ [] → (n : ℕ) → n ≡ length between → 0 < n
+    some_between [] some n e = absurd (some refl)
+    some_between (x ∷ xs) some n e = omega arith
 
 pub mark_made : (a b c : ℕ) (content t1 t2 t3 t4 t5 : List ℕ) → IsBlankRun a content t1 → t1 ≡ codes "verilator" ++ t2 → IsBlankRun b t2 t3 → t3 ≡ codes "hier_block" ++ t4 → IsBlankRun c t4 t5 → 0 < b → t5 ≡ [] → IsMarkText content
 mark_made a b c content t1 t2 t3 t4 t5 r e s f u some end =
@@ -71,7 +71,7 @@ mark_made a b c content t1 t2 t3 t4 t5 r e s f u some end =
       blank_before = r.blank;
       blank_between = s.blank;
       blank_after = u.blank;
-      parted = (λ x. let size : b ≡ 0 = s.count ∙ ap length x in absurd (omega arith))
+      parted = (λ x. let size : b ≡ 0 = s.count ∙ ap length x in absurd (omega arith));
     }
 
 pub empty_length : (xs : List ℕ) → length xs ≡ 0 → xs ≡ []

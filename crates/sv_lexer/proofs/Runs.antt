@@ -1,5 +1,5 @@
 -- lists of bytes, cut where a class of bytes ends
-use Rattle.std.proofs.Common.{◌≡◌, ℕ, zero, suc, ◌+◌, ◌<◌, ◌≤◌, Bool, true, false, List, [], ◌∷◌, ◌++◌, length, get_or, take, drop, refl, sym, ◌∙◌, ap, subst, arith, rules}
+use Rattle.std.proofs.Common.{◌≡◌, ℕ, zero, suc, ◌<◌, Bool, true, false, List, [], ◌∷◌, ◌++◌, length, get_or, take, drop, refl, sym, subst, arith}
 use Rattle.sv_lexer.specs.Bytes.{Each, Stops}
 
 pub Each-append : (p : ℕ → Bool) (xs ys : List ℕ) → Each p (xs ++ ys) → Each p xs × Each p ys

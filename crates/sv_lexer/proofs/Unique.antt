@@ -1,15 +1,14 @@
 -- a text is cut in one way
-use Rattle.std.proofs.Common.{◌≡◌, ◌⊎◌, ℕ, zero, suc, ◌+◌, ◌<◌, ◌≤◌, Bool, true, false, ◌||◌, ◌&&◌, List, [], ◌∷◌, ◌++◌, length, get_or, take, drop, refl, sym, ◌∙◌, ap, subst, inl, inr, arith, Option, Some, None}
+use Rattle.std.proofs.Common.{◌≡◌, ◌⊎◌, ℕ, Bool, true, false, ◌||◌, ◌&&◌, List, [], ◌∷◌, ◌++◌, refl, sym, ◌∙◌, ap, subst, inl, inr, arith, Some, None}
 use Rattle.std.proofs.lemmas.Bool.{or_left, or_right, and_from}
 use Rattle.std.proofs.lemmas.List.{append_assoc, append-nil, append_cancel_right}
-use Rattle.std.specs.Prelude.{codes}
 use Rattle.std.specs.Char.{is_ascii_digit}
 use Rattle.sv_base.specs.declared.kind.Kind.{Kind}
 use Rattle.sv_base.specs.declared.kind.Kind.TheVariants as kind
 use Rattle.sv_base.specs.declared.refusal.Place.{Place}
 use Rattle.sv_base.specs.declared.refusal.Refusal.{Refusal}
 use Rattle.sv_lexer.specs.Bytes.{Each, Stops, is_name_byte, is_decimal_byte}
-use Rattle.sv_lexer.specs.Piece.{HasForm, HasNoForm, IsLongest, IsName, IsComment, IsMarkText, HasNoClose, IsBased, IsDecimal, IsHead, base_of, FaultOf, Fault, is_skipped, is_sign, named, based_fault, length_fault}
+use Rattle.sv_lexer.specs.Piece.{HasForm, IsLongest, IsComment, IsMarkText, HasNoClose, IsBased, IsDecimal, base_of, FaultOf, Fault, is_skipped, is_sign, named, based_fault, length_fault}
 use Rattle.sv_lexer.specs.Cutting.{Piece, Stands, CutsTo, Fails, refused, no_form, byte_name, IsTokens, IsRefused, tokens_of, ends_of, place_at}
 use Rattle.sv_lexer.specs.Scan.{lead_of}
 use Rattle.sv_lexer.proofs.Runs.{Each-append, clash, stops_here, runs_agree, head_eq, tail_eq}
@@ -89,20 +88,21 @@ decimal_based piece h k =
 based_fill : (b : ℕ) (piece : List ℕ) → base_of b ≡ None → piece ≡ 39 ∷ b ∷ [] → HasForm form.Based piece → ⊥
 based_fill b piece d e k = go k.0 k.3.size_form k.3.whole
   where
-  letter : 39 ∷ b ∷ [] ≡ k.3.head ++ k.2 → ⊥
-  letter w =
-      let h = k.3.head_form in
-      elim h.2 [
-          inl p ↦ let f : b ≡ h.0 = head_eq (tail_eq (w ∙ ap (λ (v : List ℕ). v ++ k.2) p)) in no_base h.0 k.1 h.1 (ap base_of (sym f) ∙ d)
-        | inr q ↦ elim q [
-              inl p ↦ let f = tail_eq (tail_eq (w ∙ ap (λ (v : List ℕ). v ++ k.2) p)) in cc
+    letter : 39 ∷ b ∷ [] ≡ k.3.head ++ k.2 → ⊥
+    letter w =
+        let h = k.3.head_form in
+        elim h.2 [
+          | inl p ↦ let f : b ≡ h.0 = head_eq (tail_eq (w ∙ ap (λ (v : List ℕ). v ++ k.2) p)) in no_base h.0 k.1 h.1 (ap base_of (sym f) ∙ d)
+          | inr q ↦ elim q [
+            | inl p ↦ let f = tail_eq (tail_eq (w ∙ ap (λ (v : List ℕ). v ++ k.2) p)) in cc
             | inr p ↦ let f = tail_eq (tail_eq (w ∙ ap (λ (v : List ℕ). v ++ k.2) p)) in cc
           ]
-      ]
-  go : (size : List ℕ) → (size ≡ []) ⊎ IsDecimal size → piece ≡ size ++ k.3.head ++ k.2 → ⊥
-  go [] s w = letter (sym e ∙ w)
-  go (a ∷ size) (inl s) w = cc
-  go (a ∷ size) (inr s) w = let first : a ≡ 39 = head_eq (sym w ∙ e) in clash (is_ascii_digit a) s.0 (ap is_ascii_digit first)
+        ]
+
+    go : (size : List ℕ) → (size ≡ []) ⊎ IsDecimal size → piece ≡ size ++ k.3.head ++ k.2 → ⊥
+    go [] s w = letter (sym e ∙ w)
+    go (a ∷ size) (inl s) w = cc
+    go (a ∷ size) (inr s) w = let first : a ≡ 39 = head_eq (sym w ∙ e) in clash (is_ascii_digit a) s.0 (ap is_ascii_digit first)
 
 fill_based : (piece : List ℕ) → HasForm form.Fill piece → HasForm form.Based piece → ⊥
 fill_based piece (inl e) k = based_fill 48 piece refl e k
@@ -149,7 +149,7 @@ one_base piece s t a b d e h k =
     let first = head_first a h.head d h.head_form in
     let second = head_first b k.head e k.head_form in
     let r = runs_agree is_decimal_byte s t (h.head ++ d) (k.head ++ e) whole (size_bytes s h.size_form) (size_bytes t k.size_form)
-        (subst (Stops is_decimal_byte) (sym first.1) refl) (subst (Stops is_decimal_byte) (sym second.1) refl) in
+    (subst (Stops is_decimal_byte) (sym first.1) refl) (subst (Stops is_decimal_byte) (sym second.1) refl) in
     let same = heads_agree a b h.head k.head d e h.head_form k.head_form r.1 in
     ap (λ (x : List ℕ). based_fault x a d) r.0 ∙ ap (λ (x : Base). based_fault t x d) same.0 ∙ ap (λ (x : List ℕ). based_fault t b x) same.2
 
@@ -176,7 +176,7 @@ fronts [] q a b e = inl (q, refl, e)
 fronts (x ∷ p) [] a b e = inr (x ∷ p, refl, sym e)
 fronts (x ∷ p) (y ∷ q) a b e =
     elim (fronts p q a b (tail_eq e)) [
-        inl r ↦ inl (r.0, ap (λ (v : ℕ). v ∷ q) (sym (head_eq e)) ∙ ap (λ (v : List ℕ). x ∷ v) r.1, r.2)
+      | inl r ↦ inl (r.0, ap (λ (v : ℕ). v ∷ q) (sym (head_eq e)) ∙ ap (λ (v : List ℕ). x ∷ v) r.1, r.2)
       | inr r ↦ inr (r.0, ap (λ (v : ℕ). v ∷ p) (head_eq e) ∙ ap (λ (v : List ℕ). y ∷ v) r.1, r.2)
     ]
 
@@ -184,10 +184,10 @@ fronts (x ∷ p) (y ∷ q) a b e =
 pub longest_agree : (f g : Form) (p q a b : List ℕ) → HasForm f p → HasForm g q → IsLongest p a → IsLongest q b → p ++ a ≡ q ++ b → (p ≡ q) × (a ≡ b)
 longest_agree f g p q a b h k l m e =
     elim (fronts p q a b e) [
-        inl r ↦ let none : r.0 ≡ [] = l g r.0 b r.2 (subst (HasForm g) r.1 k) in
-            (sym (r.1 ∙ ap (λ (v : List ℕ). p ++ v) none ∙ append-nil p), r.2 ∙ ap (λ (v : List ℕ). v ++ b) none)
+      | inl r ↦ let none : r.0 ≡ [] = l g r.0 b r.2 (subst (HasForm g) r.1 k) in
+          (sym (r.1 ∙ ap (λ (v : List ℕ). p ++ v) none ∙ append-nil p), r.2 ∙ ap (λ (v : List ℕ). v ++ b) none)
       | inr r ↦ let none : r.0 ≡ [] = m f r.0 a r.2 (subst (HasForm f) r.1 h) in
-            (r.1 ∙ ap (λ (v : List ℕ). q ++ v) none ∙ append-nil q, sym (r.2 ∙ ap (λ (v : List ℕ). v ++ a) none))
+          (r.1 ∙ ap (λ (v : List ℕ). q ++ v) none ∙ append-nil q, sym (r.2 ∙ ap (λ (v : List ℕ). v ++ a) none))
     ]
 
 -- no piece stands here

@@ -1,5 +1,5 @@
 -- the cutting of a text into pieces, its tokens, and its refusal where there is none
-use Rattle.std.specs.Prelude.{◌≡◌, ◌+◌, ◌-◌, ◌^◌, min, ℕ, if◌then◌else◌, List, [], ◌∷◌, ◌++◌, length, Option, None, Some}
+use Rattle.std.specs.Prelude.{◌≡◌, ◌+◌, ◌-◌, ◌^◌, min, ℕ, if◌then◌else◌, List, [], ◌∷◌, ◌++◌, Option, None, Some}
 use Rattle.std.specs.Char.{is_ascii_graphic}
 use Rattle.std.specs.List.{cons_option}
 use Rattle.sv_base.specs.declared.kind.Kind.{Kind}

@@ -1,8 +1,8 @@
 -- what the steps of a cut find at the front of a text
-use Rattle.std.specs.Prelude.{◌≡◌, ◌⊎◌, ◌==◌, ◌+◌, ◌<◌, ◌≤◌, ℕ, Bool, true, false, if◌then◌else◌, List, [], ◌∷◌, ◌++◌, length, take, drop, slice_index, Option, None, Some}
+use Rattle.std.specs.Prelude.{◌≡◌, ◌⊎◌, ◌==◌, ◌+◌, ◌<◌, ◌≤◌, ℕ, true, if◌then◌else◌, List, [], ◌∷◌, ◌++◌, length, take, drop, slice_index, Option, None, Some}
 use Rattle.std.specs.Char.{is_ascii_digit}
 use Rattle.sv_lexer.specs.Bytes.{is_blank, is_name_start, is_name_byte, is_digit_of, is_based_byte, Each, Stops}
-use Rattle.sv_lexer.specs.Piece.{HasForm, IsLongest, HasNoForm, IsName, IsHead, IsDigits, IsMarkText, Fault, is_sign}
+use Rattle.sv_lexer.specs.Piece.{HasForm, IsLongest, IsName, IsHead, IsDigits, IsMarkText, Fault, is_sign}
 use Rattle.sv_lexer.specs.declared.form.Base.{Base}
 use Rattle.sv_lexer.specs.declared.form.Form.{Form}
 use Rattle.sv_lexer.specs.declared.form.Form.TheVariants as form

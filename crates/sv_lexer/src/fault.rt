@@ -3,12 +3,11 @@ ghost use Rattle.sv_lexer.specs.Piece as piece_spec;
 ghost use Rattle.sv_lexer.specs.Piece.{HasForm, FaultOf, IsBased};
 ghost use Rattle.sv_lexer.specs.Scan as scan;
 
-use sv_base::Kind;
-
 use crate::form::{Base, Form};
 use crate::number::head_at;
 use crate::run::{Class, run_len};
 use crate::value::{based_fault, decimal_fault};
+use sv_base::Kind;
 
 /// The greatest number of bytes of a name.
 const LONGEST_NAME: usize = 255;
@@ -51,7 +50,10 @@ fn based_flaw<'a>(piece: &'a [u8]) -> Option<Flaw<'a>>
     let Some(head) = head_at(tail) else {
         unreachable!();
     };
-    named(piece, based_fault(&piece[..size], head.base, &tail[head.len..]))
+    named(
+        piece,
+        based_fault(&piece[..size], head.base, &tail[head.len..]),
+    )
 }
 
 /// What is wrong with a piece of this form, if it is refused.
@@ -72,6 +74,7 @@ pub fn flaw_of<'a>(form: Form, piece: &'a [u8]) -> Option<Flaw<'a>>
         Form::System => length_flaw(&piece[1..]),
         Form::Decimal => named(piece, decimal_fault(piece)),
         Form::Based => based_flaw(piece),
-        Form::Blank | Form::Comment | Form::Mark | Form::Directive | Form::Fill | Form::Sign => None,
+        Form::Blank | Form::Comment | Form::Mark | Form::Directive | Form::Fill | Form::Sign =>
+            None,
     }
 }

@@ -4,15 +4,13 @@ ghost use Rattle.sv_lexer.specs.Cutting.{Fails, IsTokens, IsFaultOf, byte_name};
 ghost use Rattle.sv_lexer.specs.Cutting as cutting;
 ghost use Rattle.sv_lexer.specs.Scan.{StandsAt, Says, added};
 
-use std::alloc::{AllocError, Global};
-
-use sv_base::{Kind, Name, Place, Refusal, Sequence};
-
 use crate::fault::{Flaw, flaw_of};
 use crate::form::Form;
 use crate::found::Found;
 use crate::scan::form_at;
 use crate::token::{LexFault, Token, TokenKind};
+use std::alloc::{AllocError, Global};
+use sv_base::{Kind, Name, Place, Refusal, Sequence};
 
 fn byte_flaw(bytes: &[u8]) -> Flaw<'_>
     requires { 0 < length bytes.now }
@@ -54,7 +52,8 @@ fn kind_of(form: Form) -> Option<TokenKind>
         Form::Decimal | Form::Based => Some(TokenKind::Number),
         Form::Fill => Some(TokenKind::Fill),
         Form::Sign => Some(TokenKind::Sign),
-        Form::Blank | Form::Comment | Form::OpenComment | Form::Directive | Form::OtherDirective => None,
+        Form::Blank | Form::Comment | Form::OpenComment | Form::Directive | Form::OtherDirective =>
+            None,
     }
 }
 

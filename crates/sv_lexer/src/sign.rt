@@ -5,9 +5,10 @@ ghost use Rattle.sv_lexer.specs.Piece.{is_sign};
 
 /// The operators and punctuation of the language, those with three bytes first (5.3, 11.3).
 const SIGNS: [&[u8]; 49] = [
-    b"<<<", b">>>", b"===", b"!==", b"<<", b">>", b"<=", b">=", b"==", b"!=", b"&&", b"||", b"~&", b"~|", b"~^",
-    b"^~", b"**", b"+:", b"-:", b"++", b"--", b"+=", b"-=", b"(", b")", b"[", b"]", b"{", b"}", b";", b":", b",",
-    b".", b"#", b"@", b"?", b"=", b"+", b"-", b"*", b"/", b"%", b"&", b"|", b"^", b"~", b"!", b"<", b">",
+    b"<<<", b">>>", b"===", b"!==", b"<<", b">>", b"<=", b">=", b"==", b"!=", b"&&", b"||", b"~&",
+    b"~|", b"~^", b"^~", b"**", b"+:", b"-:", b"++", b"--", b"+=", b"-=", b"(", b")", b"[", b"]",
+    b"{", b"}", b";", b":", b",", b".", b"#", b"@", b"?", b"=", b"+", b"-", b"*", b"/", b"%", b"&",
+    b"|", b"^", b"~", b"!", b"<", b">",
 ];
 
 fn is_among(mut table: &[&[u8]], piece: &[u8]) -> bool

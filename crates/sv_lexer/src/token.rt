@@ -1,7 +1,6 @@
 ghost use Rattle.std.specs.Prelude.{◌≡◌};
 
 use std::alloc::AllocError;
-
 use sv_base::{Name, Place, Refusal};
 
 /// What a token is, by its spelling alone. Reserved words, used or refused, are words here, and refused signs

@@ -2,10 +2,9 @@ ghost use Rattle.std.specs.Prelude.{◌≡◌, ◌<◌, ◌≤◌, ◌+◌, ◌*
 ghost use Rattle.sv_lexer.specs.Bytes as bytes_spec;
 ghost use Rattle.sv_lexer.specs.Piece as piece_spec;
 
-use sv_base::Kind;
-
 use crate::form::Base;
 use crate::run::{digit_value, is_unknown, radix};
+use sv_base::Kind;
 
 /// The greatest width of a value in bits.
 const GREATEST_WIDTH: u64 = 64;

@@ -1,4 +1,3 @@
-use Rattle.std.proofs.Common.{◌≡◌, ◌<◌, ◌≤◌, ◌+◌, ℕ, List, length, take, drop, get_or, arith, refl, inl, inr, sym, ◌∙◌}
 use Rattle.std.proofs.lemmas.List.{take_rest}
 use Rattle.sv_lexer.proofs.Front.{line_at}
 use Rattle.sv_lexer.proofs.comment.line_comment.Goals as goal

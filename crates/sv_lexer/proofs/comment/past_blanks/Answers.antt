@@ -1,5 +1,3 @@
-use Rattle.std.proofs.Common.{◌≡◌, ◌<◌, ◌≤◌, ◌+◌, ℕ, List, length, take, drop, get_or, arith, refl, inl, inr, sym, ◌∙◌}
-use Rattle.std.proofs.lemmas.List.{take_rest}
 use Rattle.sv_lexer.proofs.Marks.{blank_run}
 use Rattle.sv_lexer.proofs.comment.past_blanks.Goals as goal
 

@@ -1,4 +1,4 @@
-use Rattle.std.proofs.Common.{◌≡◌, ◌<◌, ◌≤◌, ◌+◌, ℕ, List, length, take, drop, arith, refl, sym, ap, ◌∙◌}
+use Rattle.std.proofs.Common.{◌≡◌, take, arith}
 use Rattle.std.proofs.lemmas.List.{length-drop, length-take-le}
 use Rattle.sv_lexer.specs.Bytes.{line_ends}
 use Rattle.sv_lexer.proofs.Cut.{fault_at_rest, so_far_more}
@@ -20,6 +20,6 @@ loop-rest-preserved c =
     let room = c.loop-rest.invariant.1 in
     rw (c.after-rest.ensures, ends) (
       so_far_more c.args.file c.args.bytes.now c.loop-rest.rest.now c.loop-rest.tokens c.add_token.new.tokens c.loop-rest.ends c.in-Ok.found.form c.in-Ok.found.len
-      c.loop-rest.invariant.0 stands.stands c.in_ok-add_token.ensures,
-      omega arith
+          c.loop-rest.invariant.0 stands.stands c.in_ok-add_token.ensures,
+      omega arith,
     )

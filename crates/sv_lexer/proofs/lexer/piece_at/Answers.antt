@@ -1,4 +1,3 @@
-use Rattle.std.proofs.Common.{◌≡◌, ◌<◌, ◌≤◌, ℕ, List, length, take, drop, arith, refl, sym, ap, ◌∙◌}
 use Rattle.sv_lexer.proofs.Cut.{no_form_fails, refused_fails}
 use Rattle.sv_lexer.proofs.lexer.piece_at.Goals as goal
 

@@ -1,4 +1,4 @@
-use Rattle.std.proofs.Common.{◌≡◌, ◌<◌, ◌≤◌, ℕ, List, length, take, drop, arith, refl}
+use Rattle.std.proofs.Common.{arith}
 use Rattle.std.proofs.lemmas.Grind.{common_steps}
 use Rattle.sv_lexer.proofs.Front.{digits_from_run}
 use Rattle.sv_lexer.proofs.number.digits_len.Goals as goal

@@ -1,5 +1,4 @@
-use Rattle.std.proofs.Common.{◌≡◌, ◌<◌, ◌≤◌, ℕ, List, length, take, drop, arith, refl, inl, inr, sym, ◌∙◌}
-use Rattle.std.proofs.lemmas.List.{take_rest}
+use Rattle.std.proofs.Common.{◌∙◌}
 use Rattle.sv_lexer.proofs.Front.{unsized_at, fill_at, quote_none_at}
 use Rattle.sv_lexer.proofs.number.quoted.Goals as goal
 

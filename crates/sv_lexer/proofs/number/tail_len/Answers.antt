@@ -1,4 +1,3 @@
-use Rattle.std.proofs.Common.{◌≡◌, ◌<◌, ◌≤◌, ℕ, List, length, take, drop, arith, refl, inl, inr, sym, ◌∙◌}
 use Rattle.std.proofs.lemmas.List.{take_rest}
 use Rattle.sv_lexer.proofs.Front.{tail_at}
 use Rattle.sv_lexer.proofs.number.tail_len.Goals as goal

@@ -1,6 +1,6 @@
-use Rattle.std.proofs.Common.{◌≤◌, length, take, add-one, arith}
+use Rattle.std.proofs.Common.{add-one, arith}
 use Rattle.sv_lexer.proofs.Runs.{Each_more}
-use Rattle.sv_lexer.specs.Bytes.{Each, is_in}
+use Rattle.sv_lexer.specs.Bytes.{is_in}
 use Rattle.sv_lexer.proofs.run.run_len.Goals as goal
 
 pub loop-n-preserved : goal.loop-n-preserved

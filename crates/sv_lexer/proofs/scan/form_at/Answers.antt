@@ -1,4 +1,4 @@
-use Rattle.std.proofs.Common.{◌≡◌, ◌<◌, ◌≤◌, ◌+◌, ℕ, Bool, true, false, List, [], length, take, drop, get_or, arith, refl, inl, inr, sym, ap, ◌∙◌}
+use Rattle.std.proofs.Common.{sym}
 use Rattle.sv_lexer.proofs.Front.{blank_at, no_form_at}
 use Rattle.sv_lexer.proofs.scan.form_at.Goals as goal
 

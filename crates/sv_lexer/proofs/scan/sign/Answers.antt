@@ -1,4 +1,3 @@
-use Rattle.std.proofs.Common.{◌≡◌, ◌<◌, ◌≤◌, ◌+◌, ℕ, Bool, true, false, List, [], length, take, drop, get_or, arith, refl, inl, inr, sym, ap, ◌∙◌}
 use Rattle.sv_lexer.proofs.Front.{sign_at, first_sign}
 use Rattle.sv_lexer.proofs.scan.sign.Goals as goal
 

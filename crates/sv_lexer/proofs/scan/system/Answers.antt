@@ -1,4 +1,3 @@
-use Rattle.std.proofs.Common.{◌≡◌, ◌<◌, ◌≤◌, ◌+◌, ℕ, Bool, true, false, List, [], length, take, drop, get_or, arith, refl, inl, inr, sym, ap, ◌∙◌}
 use Rattle.std.proofs.lemmas.List.{take_rest}
 use Rattle.sv_lexer.proofs.Front.{system_at, system_none_at}
 use Rattle.sv_lexer.proofs.scan.system.Goals as goal

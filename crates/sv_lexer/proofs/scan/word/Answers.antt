@@ -1,4 +1,3 @@
-use Rattle.std.proofs.Common.{◌≡◌, ◌<◌, ◌≤◌, ◌+◌, ℕ, Bool, true, false, List, [], length, take, drop, get_or, arith, refl, inl, inr, sym, ap, ◌∙◌}
 use Rattle.sv_lexer.proofs.Front.{name_at, word_at}
 use Rattle.sv_lexer.proofs.scan.word.Goals as goal
 

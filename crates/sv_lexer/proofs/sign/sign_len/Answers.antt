@@ -1,4 +1,4 @@
-use Rattle.std.proofs.Common.{ℕ, ◌<◌, ◌≤◌, ◌≡◌, length, take, refl}
+use Rattle.std.proofs.Common.{refl}
 use Rattle.sv_lexer.proofs.Longest.{long_no_sign, no_sign_from}
 use Rattle.sv_lexer.proofs.sign.sign_len.Goals as goal
 

@@ -1,5 +1,4 @@
-use Rattle.std.proofs.Common.{◌≡◌, ◌<◌, ◌≤◌, ◌+◌, ◌*◌, ◌^◌, length, get_or, arith, ap, sym, ◌∙◌, subst, ℕ}
-use Rattle.std.proofs.lemmas.Grind.{common_steps}
+use Rattle.std.proofs.Common.{◌^◌, arith}
 use Rattle.sv_lexer.proofs.Values.{passes_bound}
 use Rattle.sv_lexer.proofs.value.value_of.Goals as goal
 
