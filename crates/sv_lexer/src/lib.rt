@@ -19,3 +19,6 @@ mod value;
 pub use laws::{not_both, one_list, one_refusal};
 pub use lexer::lex;
 pub use token::{LexFault, Token, TokenKind};
+
+#[cfg(test)]
+mod tests;
