@@ -1,7 +1,8 @@
 use crate::{LexFault, Token, TokenKind, lex};
 use std::alloc::{AllocError, Global};
+use std::process::Abort;
 use std::test::Fail;
-use sv_base::{Kind, Refusal};
+use sv_base::{Kind, Refusal, Sequence};
 
 /// Texts that are one token, with its kind.
 const SINGLES: [(TokenKind, &[u8]); 112] = [
@@ -264,14 +265,17 @@ fn shown(alloc: Global, tokens: &[Token]) -> Result<Vec<u8>, AllocError> {
     Ok(out)
 }
 
-#[test]
-fn each_spelling_is_one_token(rt: HostRuntime) -> Result<(), Fail> {
-    for (kind, text) in SINGLES {
-        let tokens = lex(rt.alloc(), 3, text)?;
+fn each_is_one_token(
+    rt: &impl Abort,
+    alloc: Global,
+    rows: &[(TokenKind, &[u8])],
+) -> Result<(), LexFault> {
+    for (kind, text) in rows {
+        let tokens = lex(alloc, 3, *text)?;
         assert_eq!(rt; tokens.len(), 1, "{text:?}");
         for token in tokens.as_slice() {
-            assert_eq!(rt; token.kind, kind, "{text:?}");
-            assert_eq!(rt; token.text.bytes(), text);
+            assert_eq!(rt; token.kind, *kind, "{text:?}");
+            assert_eq!(rt; token.text.bytes(), *text);
             assert_eq!(rt; token.place.file, 3);
             assert_eq!(rt; token.place.line, 1);
         }
@@ -280,32 +284,52 @@ fn each_spelling_is_one_token(rt: HostRuntime) -> Result<(), Fail> {
 }
 
 #[test]
-fn texts_have_their_tokens(rt: HostRuntime) -> Result<(), Fail> {
-    for (text, expected) in LISTS {
-        let tokens = lex(rt.alloc(), 1, text)?;
-        let found = shown(rt.alloc(), tokens.as_slice())?;
-        assert_eq!(rt; found.as_slice(), expected, "{text:?}");
+fn each_spelling_is_one_token(rt: HostRuntime) -> Result<(), Fail> {
+    each_is_one_token(&rt, rt.alloc(), &SINGLES)?;
+    Ok(())
+}
+
+fn each_has_its_tokens(
+    rt: &impl Abort,
+    alloc: Global,
+    rows: &[(&[u8], &[u8])],
+) -> Result<(), LexFault> {
+    for (text, expected) in rows {
+        let tokens = lex(alloc, 1, *text)?;
+        let found = shown(alloc, tokens.as_slice())?;
+        assert_eq!(rt; found.as_slice(), *expected, "{text:?}");
     }
     Ok(())
 }
 
-fn refusal(found: Result<sv_base::Sequence<Token>, LexFault>) -> Option<Refusal> {
+#[test]
+fn texts_have_their_tokens(rt: HostRuntime) -> Result<(), Fail> {
+    each_has_its_tokens(&rt, rt.alloc(), &LISTS)?;
+    Ok(())
+}
+
+fn refusal(found: Result<Sequence<Token>, LexFault>) -> Option<Refusal> {
     match found {
         Err(LexFault::Refused(refusal)) => Some(refusal),
         _ => None,
     }
 }
 
-#[test]
-fn texts_are_refused_at_their_first_fault(rt: HostRuntime) -> Result<(), Fail> {
-    for (text, kind, name, line) in REFUSALS {
-        let found = refusal(lex(rt.alloc(), 2, text)).ok_or("not refused")?;
-        assert_eq!(rt; found.kind, kind, "{text:?}");
-        assert_eq!(rt; found.name.bytes(), name, "{text:?}");
+fn each_is_refused(rt: &impl Abort, alloc: Global, rows: &[(&[u8], Kind, &[u8], u32)]) {
+    for (text, kind, name, line) in rows {
+        let Some(found) = refusal(lex(alloc, 2, *text)) else {
+            panic!(rt; "not refused: {text:?}")
+        };
+        assert_eq!(rt; found.kind, *kind, "{text:?}");
+        assert_eq!(rt; found.name.bytes(), *name, "{text:?}");
         assert_eq!(rt; found.place.file, 2);
-        assert_eq!(rt; found.place.line, line, "{text:?}");
+        assert_eq!(rt; found.place.line, *line, "{text:?}");
     }
-    Ok(())
+}
+
+#[test]
+fn texts_are_refused_at_their_first_fault(rt: HostRuntime) {
+    each_is_refused(&rt, rt.alloc(), &REFUSALS);
 }
 
 #[test]
