@@ -7,3 +7,4 @@ pub mod Marks
 pub mod Values
 pub mod Cut
 pub mod Unique
+pub mod Worked

@@ -1,9 +1,10 @@
 -- the number that digits spell only grows with each digit
-use Rattle.std.proofs.Common.{◌≡◌, ℕ, ◌+◌, ◌*◌, ◌<◌, ◌≤◌, List, [], ◌∷◌, length, get_or, true, not, eqb, sym, ◌∙◌, ap, arith}
-use Rattle.std.proofs.Math.Nat.{mul-le-mul_left}
-use Rattle.std.proofs.lemmas.Bool.{not_from_false, ne_eqb, cond-true}
+use Rattle.std.proofs.Common.{◌≡◌, ℕ, ◌+◌, ◌*◌, ◌^◌, ◌<◌, ◌≤◌, List, [], ◌∷◌, length, get_or, true, not, eqb, sym, ◌∙◌, ap, arith, inl, inr}
+use Rattle.std.proofs.Math.Nat.{mul-le-mul_left, pow-succ', pow-zero, mul-one, zero-mul, add-zero, zero-add}
+use Rattle.std.proofs.Math.Numerals.{one-add}
+use Rattle.std.proofs.lemmas.Bool.{not_from_false, ne_eqb, cond-true, cases_Bool}
 use Rattle.std.specs.List.{fold, filter}
-use Rattle.sv_lexer.specs.Bytes.{digit_value}
+use Rattle.sv_lexer.specs.Bytes.{digit_value, digits_in, spelled}
 
 le_times : (n r : ℕ) → 1 ≤ r → n ≤ n * r
 le_times n r h = omega (arith, mul-le-mul_left n h)
@@ -24,3 +25,18 @@ passes_bound r n bound (b ∷ s) whole h some other e le =
     let step : fold (λ m b. m * r + digit_value b) (n * r + digit_value b) (filter (λ b. not (eqb b 95)) s) ≡ whole = sym (ap (fold (λ m b. m * r + digit_value b) n) kept) ∙ e in
     let more = fold_grows r (n * r + digit_value b) (filter (λ b. not (eqb b 95)) s) h in
     omega arith
+
+-- the number read digit by digit, from a value so far
+pub spelled_from : (r n : ℕ) (s : List ℕ) → fold (λ m b. m * r + digit_value b) n (filter (λ b. not (eqb b 95)) s) ≡ n * r ^ digits_in s + spelled r s
+spelled_from r n [] = simp (pow-zero, mul-one, add-zero)
+spelled_from r n (b ∷ s) =
+    elim (cases_Bool (eqb b 95)) [
+      | inl e ↦ rw e (spelled_from r n s)
+      | inr e ↦ rw e (spelled_from r (n * r + digit_value b) s ∙ regroup n r (digit_value b) (digits_in s) (spelled r s))
+    ]
+  where
+    regroup : (n r d k t : ℕ) → (n * r + d) * r ^ k + t ≡ n * r ^ (1 + k) + (d * r ^ k + t)
+    regroup n r d k t = let e : r ^ (1 + k) ≡ r * r ^ k = rw one-add (pow-succ' r k) in rw e (omega arith)
+
+pub spelled_whole : (r : ℕ) (s : List ℕ) → fold (λ m b. m * r + digit_value b) 0 (filter (λ b. not (eqb b 95)) s) ≡ spelled r s
+spelled_whole r s = spelled_from r 0 s ∙ (let z : 0 * r ^ digits_in s + spelled r s ≡ spelled r s = simp (zero-mul, zero-add) in z)

@@ -1,8 +1,7 @@
 -- classes of bytes, by their ASCII codes
-use Rattle.std.specs.Prelude.{◌≡◌, ℕ, ◌-◌, ◌+◌, ◌*◌, Bool, true, false, not, ◌||◌, ◌==◌, nat_lt, if◌then◌else◌, List, [], ◌∷◌}
+use Rattle.std.specs.Prelude.{◌≡◌, ℕ, ◌-◌, ◌+◌, ◌*◌, ◌^◌, Bool, true, false, not, ◌||◌, ◌==◌, nat_lt, if◌then◌else◌, List, [], ◌∷◌}
 use Rattle.std.specs.Char.{is_ascii_digit, is_ascii_alphabetic}
 use Rattle.std.specs.Int.{is_in_range}
-use Rattle.std.specs.List.{fold, filter}
 use Rattle.sv_lexer.specs.declared.run.Class.{Class}
 use Rattle.sv_lexer.specs.declared.run.Class.TheVariants as class
 use Rattle.sv_lexer.specs.declared.form.Base.{Base}
@@ -48,6 +47,7 @@ is_unknown b = b == 120 || b == 88 || b == 122 || b == 90 || b == 63
 abbrev pub is_digit_of : Base → ℕ → Bool
 is_digit_of base b = nat_lt (digit_value b) (radix base) || is_unknown b
 
+-- a digit of this base, or the `_` between digits
 abbrev pub is_based_byte : Base → ℕ → Bool
 is_based_byte base b = is_digit_of base b || b == 95
 
@@ -69,9 +69,15 @@ abbrev pub Stops : (ℕ → Bool) → List ℕ → Type 0
 Stops test [] = Unit {0}
 Stops test (b ∷ bs) = test b ≡ false
 
--- the number that digits spell at a radix, with each `_` passed over (5.7.1)
+-- how many digits there are, with each `_` passed over
+abbrev pub digits_in : List ℕ → ℕ
+digits_in [] = 0
+digits_in (b ∷ bs) = if b == 95 then digits_in bs else 1 + digits_in bs
+
+-- the number that digits spell: each counts its value times the radix to the power of the digits after it (5.7.1)
 abbrev pub spelled : ℕ → List ℕ → ℕ
-spelled radix digits = fold (λ n b. n * radix + digit_value b) 0 (filter (λ b. not (b == 95)) digits)
+spelled radix [] = 0
+spelled radix (b ∷ bs) = if b == 95 then spelled radix bs else digit_value b * radix ^ digits_in bs + spelled radix bs
 
 -- how many LFs there are
 abbrev pub line_ends : List ℕ → ℕ

@@ -84,10 +84,11 @@ pub record IsBased (piece size : List ℕ) (base : Base) (digits : List ℕ) : T
   pub head_form : IsHead base head
   pub digits_form : IsDigits base digits
 
--- a decimal number has 32 bits and is signed
+-- a decimal number has 32 bits and is signed, so 2147483647 is its greatest (5.7.1)
 abbrev pub decimal_fault : List ℕ → Option Kind
 decimal_fault piece = if nat_lt 2147483647 (spelled 10 piece) then Some kind.BadNumber else None
 
+-- some digit stands for no known value
 abbrev pub has_unknown : List ℕ → Bool
 has_unknown digits = list_any is_unknown digits
 
@@ -121,6 +122,7 @@ signs = codes "<<<" ∷ codes ">>>" ∷ codes "===" ∷ codes "!==" ∷ codes "<
     ∷ codes "." ∷ codes "#" ∷ codes "@" ∷ codes "?" ∷ codes "=" ∷ codes "+" ∷ codes "-" ∷ codes "*"
     ∷ codes "/" ∷ codes "%" ∷ codes "&" ∷ codes "|" ∷ codes "^" ∷ codes "~" ∷ codes "!" ∷ codes "<" ∷ codes ">" ∷ []
 
+-- one of these
 unfoldable pub is_sign : List ℕ → Bool
 is_sign piece = list_any (λ sign. bytes_eq sign piece) signs
 
