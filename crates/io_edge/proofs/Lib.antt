@@ -1,0 +1,3 @@
+pub mod NumberedCalls
+pub mod OfferedSoFar
+pub mod Places

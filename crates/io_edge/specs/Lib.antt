@@ -1,0 +1,5 @@
+pub mod Entries
+pub mod Fault
+pub mod Told
+pub mod File
+pub mod Ground

@@ -1,0 +1,10 @@
+pub mod Lists
+pub mod Paths
+pub mod Marks
+pub mod Opened
+pub mod Followed
+pub mod Settled
+pub mod Costs
+pub mod Steps
+pub mod Results
+pub mod Examples

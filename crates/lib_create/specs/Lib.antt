@@ -1,0 +1,11 @@
+pub mod Spelling
+pub mod Command
+pub mod Grammar
+pub mod Design
+pub mod Stimulus
+pub mod Order
+pub mod Outcome
+pub mod Answer
+pub mod CommandWords
+pub mod Loading
+pub mod Verdicts

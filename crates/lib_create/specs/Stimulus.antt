@@ -1,0 +1,245 @@
+-- What the bytes of a stimulus say: its steps up to the first bad line, and that line, or the end.
+use Rattle.std.specs.Prelude.{ℕ, zero, suc, ◌+◌, ◌-◌, ◌*◌, ◌^◌, Bool, true, false, not, ◌&&◌, ◌||◌, ◌==◌, nat_lt, nat_le, List, [], ◌∷◌, ◌++◌, length, codes, Option, None, Some, Result, Ok, Err, if◌then◌else◌}
+use Rattle.std.specs.List.{list_any, fold}
+use Rattle.std.specs.Str.{bytes_eq}
+use Rattle.net_ir.specs.declared.design.Role.{Role}
+use Rattle.net_ir.specs.declared.design.Role.TheVariants.{Input, Output}
+use Rattle.net_ir.specs.declared.design.Var.{Var}
+use Rattle.net_ir.specs.Run.{Setting, Step, Values}
+use Rattle.lib_create.specs.Spelling.{is_name}
+use Rattle.lib_create.specs.declared.reason.Reason.{Reason}
+use Rattle.lib_create.specs.declared.reason.Reason.TheVariants.{NoStep, NoSetting, NoInput, SetTwice, NoValue, LineTooLong, FileTooLong, TooManySteps}
+
+-- ---- lines and words
+
+-- a line: its bytes before the LF, and whether an LF ends it
+pub record Line : Type 0 where
+  pub text : List ℕ
+  pub ended : Bool
+
+-- a byte before the first of these lines
+abbrev pub onto_line : ℕ → List Line → List Line
+onto_line b [] = record { text = b ∷ []; ended = false } ∷ []
+onto_line b (line ∷ lines) = record { text = b ∷ line.text; ended = line.ended } ∷ lines
+
+-- the lines of a file: each ends with its LF, but the last may lack it
+abbrev pub lines_of : List ℕ → List Line
+lines_of [] = []
+lines_of (b ∷ bytes) = if b == 10 then record { text = []; ended = true } ∷ lines_of bytes else onto_line b (lines_of bytes)
+
+-- how many bytes of the file a line takes
+abbrev pub span : Line → ℕ
+span line = length line.text + (if line.ended then 1 else 0)
+
+-- the bytes without a CR at their end
+abbrev pub without_cr : List ℕ → List ℕ
+without_cr [] = []
+without_cr (b ∷ []) = if b == 13 then [] else b ∷ []
+without_cr (b ∷ c ∷ bytes) = b ∷ without_cr (c ∷ bytes)
+
+-- what a line says: a CR right before its LF is left out
+abbrev pub content_of : Line → List ℕ
+content_of line = if line.ended then without_cr line.text else line.text
+
+-- spaces and tabs separate words
+abbrev pub separates : ℕ → Bool
+separates b = b == 32 || b == 9
+
+-- a byte before the first of these words
+abbrev pub onto_word : ℕ → List (List ℕ) → List (List ℕ)
+onto_word b [] = (b ∷ []) ∷ []
+onto_word b (word ∷ words) = (b ∷ word) ∷ words
+
+-- a byte of a word goes before the word at whose front it stands, or is a word by itself
+abbrev pub joins : List ℕ → Bool
+joins [] = false
+joins (b ∷ bytes) = not (separates b)
+
+-- the words of a text
+abbrev pub words_of : List ℕ → List (List ℕ)
+words_of [] = []
+words_of (b ∷ bytes) = if separates b then words_of bytes else (if joins bytes then onto_word b (words_of bytes) else (b ∷ []) ∷ words_of bytes)
+
+-- ---- settings
+
+-- what stands before the first `=` and after it
+abbrev pub before_first_part : ℕ → Option (List ℕ × List ℕ) → Option (List ℕ × List ℕ)
+before_first_part b None = None
+before_first_part b (Some parts) = Some (b ∷ parts.0, parts.1)
+
+abbrev pub parts_of : List ℕ → Option (List ℕ × List ℕ)
+parts_of [] = None
+parts_of (b ∷ bytes) = if b == 61 then Some ([], bytes) else before_first_part b (parts_of bytes)
+
+-- a setting by its form: a name, `=` and a value that is not empty
+abbrev pub named_part : Option (List ℕ × List ℕ) → Option (List ℕ × List ℕ)
+named_part None = None
+named_part (Some parts) = if is_name parts.0 && nat_lt 0 (length parts.1) then Some parts else None
+
+-- the input of a name, by its number from n on, where there is one
+abbrev pub is_input : Role → Bool
+is_input Input = true
+is_input Output = false
+
+abbrev pub input_from : ℕ → List Var → List ℕ → Option (ℕ × Var)
+input_from n [] name = None
+input_from n (v ∷ vars) name = if bytes_eq v.name name && is_input v.role then Some (n, v) else input_from (n + 1) vars name
+
+-- the value of a hexadecimal digit in either case
+abbrev pub digit_of : ℕ → Option ℕ
+digit_of b =
+    if nat_le 48 b && nat_le b 57 then Some (b - 48)
+    else (if nat_le 97 b && nat_le b 102 then Some (b - 87) else (if nat_le 65 b && nat_le b 70 then Some (b - 55) else None))
+
+abbrev pub more_digits : Option ℕ → Option ℕ → Option ℕ
+more_digits None digit = None
+more_digits (Some high) None = None
+more_digits (Some high) (Some digit) = Some (high * 16 + digit)
+
+-- the number that digits spell, behind the number that those before them do
+abbrev pub number_from : Option ℕ → List ℕ → Option ℕ
+number_from high [] = high
+number_from high (b ∷ digits) = number_from (more_digits high (digit_of b)) digits
+
+abbrev pub within_width : ℕ → Option ℕ → Option ℕ
+within_width width None = None
+within_width width (Some word) = if nat_lt word (2 ^ width) then Some word else None
+
+-- the word that a value's text gives an input of this width: 1 to 16 digits, of a number that the width holds
+abbrev pub word_in : ℕ → List ℕ → Option ℕ
+word_in width text = if nat_lt 0 (length text) && nat_le (length text) 16 then within_width width (number_from (Some 0) text) else None
+
+-- what is wrong with a line: the reason, and the word that the message names
+pub record Fault : Type 0 where
+  pub reason : Reason
+  pub word : List ℕ
+
+abbrev pub valued : ℕ → List ℕ → Option ℕ → Result Setting Fault
+valued var text None = Err (record { reason = NoValue; word = text })
+valued var text (Some word) = Ok (record { var = var; word = word })
+
+abbrev pub set_input : List ℕ → List ℕ → List ℕ → Option (ℕ × Var) → Result Setting Fault
+set_input set name text None = Err (record { reason = NoInput; word = name })
+set_input set name text (Some found) =
+    if list_any (λ var. var == found.0) set then Err (record { reason = SetTwice; word = name }) else valued found.0 text (word_in found.1.width text)
+
+abbrev pub setting_of_parts : List Var → List ℕ → List ℕ → Option (List ℕ × List ℕ) → Result Setting Fault
+setting_of_parts vars set word None = Err (record { reason = NoSetting; word = word })
+setting_of_parts vars set word (Some parts) = set_input set parts.0 parts.1 (input_from 0 vars parts.0)
+
+-- what a word sets, where the inputs of these numbers were set before it in the line: its form, its name, a repetition and its value are
+-- judged in this order
+abbrev pub setting_of : List Var → List ℕ → List ℕ → Result Setting Fault
+setting_of vars set word = setting_of_parts vars set word (named_part (parts_of word))
+
+-- ---- steps
+
+abbrev pub with_setting : Setting → Result (List Setting) Fault → Result (List Setting) Fault
+with_setting first (Ok rest) = Ok (first ∷ rest)
+with_setting first (Err fault) = Err fault
+
+abbrev pub after_setting : Result Setting Fault → (Setting → Result (List Setting) Fault) → Result (List Setting) Fault
+after_setting (Err fault) go = Err fault
+after_setting (Ok first) go = with_setting first (go first)
+
+-- what words set, from left to right, up to the first that is wrong, where the inputs of these numbers were set before them
+abbrev pub settings_of : List Var → List ℕ → List (List ℕ) → Result (List Setting) Fault
+settings_of vars set [] = Ok []
+settings_of vars set (word ∷ words) = after_setting (setting_of vars set word) (λ first. settings_of vars (first.var ∷ set) words)
+
+-- what a line asks for: nothing, where it has no words or is a comment, or a step, or it is wrong
+pub data Meaning : Type 0 where
+  Skipped : Meaning
+  Stepped : (step : Step) → Meaning
+  Refused : (fault : Fault) → Meaning
+
+abbrev pub meaning_of_settings : Result (List Setting) Fault → Meaning
+meaning_of_settings (Ok settings) = Stepped (Values settings)
+meaning_of_settings (Err fault) = Refused fault
+
+-- a word that begins with `#` makes a comment of its line
+abbrev pub is_comment : List ℕ → Bool
+is_comment [] = false
+is_comment (b ∷ bytes) = b == 35
+
+-- what the words of a line ask for
+abbrev pub meaning_of_words : List Var → List (List ℕ) → Meaning
+meaning_of_words vars [] = Skipped
+meaning_of_words vars (word ∷ words) =
+    if is_comment word then Skipped else (if bytes_eq word (codes "d") then meaning_of_settings (settings_of vars [] words) else Refused (record { reason = NoStep; word = word }))
+
+-- ---- limits
+
+-- the most bytes of a line without its LF, and of a file
+abbrev pub line_limit : ℕ
+line_limit = 65536
+
+abbrev pub file_limit : ℕ
+file_limit = 1073741824
+
+-- the limit that a line passes which begins at this place of the file: that whose first byte past it comes first
+abbrev pub limit_of : ℕ → Line → Option Reason
+limit_of at line =
+    if nat_lt line_limit (length line.text) && nat_le (at + line_limit) file_limit then Some LineTooLong
+    else (if nat_lt file_limit (at + span line) then Some FileTooLong else None)
+
+-- ---- the whole
+
+-- the first bad line: its number, the reason, and the word that the message names, empty where it names none
+pub record BadLine : Type 0 where
+  pub line : ℕ
+  pub reason : Reason
+  pub word : List ℕ
+
+-- the steps before the first bad line, and that line where there is one
+pub record Script : Type 0 where
+  pub steps : List Step
+  pub bad : Option BadLine
+
+abbrev pub ended : Script
+ended = record { steps = []; bad = None }
+
+abbrev pub stopped : ℕ → Reason → List ℕ → Script
+stopped number reason word = record { steps = []; bad = Some (record { line = number; reason = reason; word = word }) }
+
+abbrev pub with_step : Step → Script → Script
+with_step step rest = record { steps = step ∷ rest.steps; bad = rest.bad }
+
+-- a line's part of the script: `more` steps may still come, `skip` is the script of the other lines, and `go` that after one step more
+abbrev pub script_of_meaning : ℕ → ℕ → Meaning → Script → Script → Script
+script_of_meaning more number Skipped skip go = skip
+script_of_meaning zero number (Stepped step) skip go = stopped number TooManySteps []
+script_of_meaning zero number (Refused fault) skip go = stopped number TooManySteps []
+script_of_meaning (suc more) number (Stepped step) skip go = with_step step go
+script_of_meaning (suc more) number (Refused fault) skip go = stopped number fault.reason fault.word
+
+abbrev pub unless_limit : ℕ → Option Reason → Script → Script
+unless_limit number (Some reason) script = stopped number reason []
+unless_limit number None script = script
+
+-- The script of lines, the first of which has this number and begins at this place of the file, where so many steps more are allowed.
+-- A line's limits come before the count of steps, and that before what its words say.
+abbrev pub script_from : List Var → ℕ → ℕ → ℕ → List Line → Script
+script_from vars more number at [] = ended
+script_from vars more number at (line ∷ lines) =
+    unless_limit number (limit_of at line)
+    (script_of_meaning more number (meaning_of_words vars (words_of (content_of line)))
+    (script_from vars more (number + 1) (at + span line) lines)
+    (script_from vars (more - 1) (number + 1) (at + span line) lines))
+
+-- the script of a stimulus file, where at most so many steps are allowed
+abbrev pub script_of : List Var → ℕ → List ℕ → Script
+script_of vars most bytes = script_from vars most 1 0 (lines_of bytes)
+
+-- ---- messages
+
+-- what is wrong, in words
+abbrev pub reason_text : Reason → List ℕ → List ℕ
+reason_text NoStep word = word ++ codes " is no step"
+reason_text NoSetting word = word ++ codes " is no setting"
+reason_text NoInput word = word ++ codes " is no input"
+reason_text SetTwice word = word ++ codes " is set twice"
+reason_text NoValue word = word ++ codes " is no value"
+reason_text LineTooLong word = codes "line too long"
+reason_text FileTooLong word = codes "file too long"
+reason_text TooManySteps word = codes "too many steps"

@@ -1,0 +1,7 @@
+pub mod Terms
+pub mod Layers
+pub mod Order
+pub mod Unique
+pub mod Passes
+pub mod Solved
+pub mod Turns

@@ -1,0 +1,116 @@
+-- What the evaluator's pass leaves.
+use Rattle.std.proofs.Common.{◌≡◌, ℕ, zero, suc, ◌<◌, ◌≤◌, ◌+◌, List, [], ◌∷◌, ◌++◌, length, map, take, drop, get_or, refl, sym, ◌∙◌, ap, subst, arith, Option, None, Some}
+use Rattle.std.specs.Prelude.{slice_index, slice_set, slice_get}
+use Rattle.std.specs.List.{AllByRecursion}
+use Rattle.std.proofs.lemmas.List.{length-map, take_more, take_more_set}
+use Rattle.std.proofs.Common.{take_all, add-one, drop-cons}
+use Rattle.sv_base.specs.declared.refusal.Place.{Place}
+use Rattle.net_ir.specs.declared.term.Term.{Term}
+use Rattle.net_ir.specs.declared.design.Role.{Role}
+use Rattle.net_ir.specs.declared.design.Role.TheVariants.{Input, Output}
+use Rattle.bit_ops.specs.declared.value.Bits.{Bits}
+use Rattle.net_ir.specs.declared.design.Var.{Var}
+use Rattle.net_ir.specs.declared.design.Target.{Target}
+use Rattle.net_ir.specs.declared.design.Target.TheVariants.{Of}
+use Rattle.net_ir.specs.declared.design.Driver.{Driver}
+use Rattle.net_ir.specs.declared.design.Driver.TheVariants.{Assign}
+use Rattle.net_ir.specs.Value.{words, widths, widths_of, val, size}
+use Rattle.net_ir.specs.Drive.{target_var}
+use Rattle.net_ir.specs.Plain.{IsWhole, IsLawful}
+use Rattle.net_ir.specs.Pass.{IsStorable, store, effect, run, source_at, source_of, sources_of}
+
+-- ---- a store
+
+-- what a function of each element gives of a list with one element changed
+pub map-set : {X Y : Type 0} (f : X → Y) (xs : List X) (i : ℕ) (x : X) → map f (slice_set xs i x) ≡ slice_set (map f xs) i (f x)
+map-set f [] i x = refl
+map-set f (y ∷ xs) zero x = refl
+map-set f (y ∷ xs) (suc i) x = ap (λ ys. f y ∷ ys) (map-set f xs i x)
+
+-- to store what stands there changes nothing
+set_same : (xs : List ℕ) (i n : ℕ) → n ≡ slice_index xs i → slice_set xs i n ≡ xs
+set_same [] i n is = refl
+set_same (x ∷ xs) zero n is = ap (λ m. m ∷ xs) is
+set_same (x ∷ xs) (suc i) n is = ap (λ ys. x ∷ ys) (set_same xs i n is)
+
+pub store_at : (target : Target) (var word : ℕ) (u : List ℕ) → target_var target ≡ Some var → store target word u ≡ slice_set u var word
+store_at (Of None name place) var word u is = absurd (cc)
+store_at (Of (Some x) name place) var word u is = let same : x ≡ var = cc in ap (λ i. slice_set u i word) same
+
+pub storable_at : (ws : List ℕ) (target : Target) (var width : ℕ) → target_var target ≡ Some var → IsStorable ws target width → (var < length ws) × (width ≡ slice_index ws var)
+storable_at ws (Of None name place) var width is storable = absurd (cc)
+storable_at ws (Of (Some x) name place) var width is storable = let same : x ≡ var = cc in subst (λ i. (i < length ws) × (width ≡ slice_index ws i)) same storable
+
+pub storable_some : (ws : List ℕ) (target : Target) (width : ℕ) → target_var target ≡ None → IsStorable ws target width → ⊥
+storable_some ws (Of None name place) width is storable = storable
+storable_some ws (Of (Some x) name place) width is storable = absurd (cc)
+
+pub stored_widths : (values : List Bits) (target : Target) (var : ℕ) (b : Bits) → target_var target ≡ Some var → IsStorable (widths values) target b.width → widths (slice_set values var b) ≡ widths values
+stored_widths values target var b is storable =
+    map-set (λ (x : Bits). x.width) values var b ∙ set_same (widths values) var b.width (storable_at (widths values) target var b.width is storable).1
+
+pub stored_words : (values : List Bits) (target : Target) (var : ℕ) (b : Bits) → target_var target ≡ Some var → words (slice_set values var b) ≡ store target b.word (words values)
+stored_words values target var b is =
+    map-set (λ (x : Bits). x.word) values var b ∙ sym (store_at target var b.word (words values) is)
+
+-- a whole assignment stores a value of its target's width
+pub whole_storable : (ws : List ℕ) (target : Target) (value : Term) (at : Place) (width : ℕ) → IsWhole ws (Assign target value at) → width ≡ size ws value → IsStorable ws target width
+whole_storable ws (Of None name place) value at width whole is = whole
+whole_storable ws (Of (Some var) name place) value at width whole is = (whole.there, is ∙ whole.width)
+
+pub whole_lawful : (ws : List ℕ) (target : Target) (value : Term) (at : Place) → IsWhole ws (Assign target value at) → IsLawful ws value
+whole_lawful ws (Of None name place) value at whole = absurd whole
+whole_lawful ws (Of (Some var) name place) value at whole = whole.lawful
+
+-- ---- the loop over the drivers
+
+pub all_at : {X : Type 0} (P : X → Type 0) (xs : List X) (i : ℕ) (x : X) → AllByRecursion P xs → i < length xs → x ≡ get_or xs i x → P x
+all_at P [] i x all within is = absurd (omega arith)
+all_at P (y ∷ xs) zero x all within is = subst P (sym is) all.0
+all_at P (y ∷ xs) (suc i) x all within is = all_at P xs i x all.1 (omega arith) is
+
+-- one driver more
+pub run_more : (ws : List ℕ) (drivers : List Driver) (i : ℕ) (d : Driver) (u v : List ℕ) → i < length drivers → d ≡ get_or drivers i d → v ≡ effect ws d u → run ws (drop (i + 1) drivers) v ≡ run ws (drop i drivers) u
+run_more ws drivers i d u v within is step =
+    let split : drop i drivers ≡ d ∷ drop (i + 1) drivers = rw (add-one, drop-cons drivers i d within) (ap (λ x. x ∷ drop (suc i) drivers) (sym is)) in
+    ap (run ws (drop (i + 1) drivers)) step ∙ sym (ap (λ ds. run ws ds u) split)
+
+-- ---- what stands before the drivers
+
+length_sources : (vars : List Var) (inputs : List Bits) → length inputs ≡ length vars → length (sources_of vars inputs) ≡ length vars
+length_sources [] inputs long = refl
+length_sources (v ∷ vars) [] long = absurd (omega arith)
+length_sources (v ∷ vars) (b ∷ inputs) long = ap (λ n. suc n) (length_sources vars inputs (omega arith))
+
+pub source_index : (vars : List Var) (inputs : List Bits) (i : ℕ) (v : Var) (b d : Bits) → i < length vars → i < length inputs → v ≡ get_or vars i v → b ≡ get_or inputs i b → get_or (sources_of vars inputs) i d ≡ source_of v b
+source_index [] inputs i v b d here there is_v is_b = absurd (omega arith)
+source_index (w ∷ vars) [] i v b d here there is_v is_b = absurd (omega arith)
+source_index (w ∷ vars) (a ∷ inputs) zero v b d here there is_v is_b = ap (λ x. source_of x a) (sym is_v) ∙ ap (source_of v) (sym is_b)
+source_index (w ∷ vars) (a ∷ inputs) (suc i) v b d here there is_v is_b = source_index vars inputs i v b d (omega arith) (omega arith) is_v is_b
+
+pub more_sources : (vars : List Var) (inputs values : List Bits) (i : ℕ) (v : Var) (b s : Bits) → length inputs ≡ length vars → length values ≡ length vars → i < length vars → v ≡ get_or vars i v → b ≡ get_or inputs i b → s ≡ source_of v b → take i values ≡ take i (sources_of vars inputs) → take (i + 1) (slice_set values i s) ≡ take (i + 1) (sources_of vars inputs)
+more_sources vars inputs values i v b s long shape within is_v is_b is so_far =
+    let n = length_sources vars inputs long in
+    take_more_set values i s (omega arith)
+    ∙ ap (λ xs. xs ++ s ∷ []) so_far
+    ∙ ap (λ x. take i (sources_of vars inputs) ++ x ∷ []) (is ∙ sym (source_index vars inputs i v b s within (omega arith) is_v is_b))
+    ∙ sym (take_more (sources_of vars inputs) i s (omega arith))
+
+pub all_sources : (vars : List Var) (inputs values : List Bits) (i : ℕ) → length inputs ≡ length vars → length values ≡ length vars → length vars ≤ i → take i values ≡ take i (sources_of vars inputs) → values ≡ sources_of vars inputs
+all_sources vars inputs values i long shape all so_far =
+    sym (take_all i values (omega arith)) ∙ so_far ∙ take_all i (sources_of vars inputs) (let n = length_sources vars inputs long in omega arith)
+
+source_width : (r : Role) (input init : Bits) (width : ℕ) → input.width ≡ width → init.width ≡ width → (source_at r input init).width ≡ width
+source_width Input input init width a b = a
+source_width Output input init width a b = b
+
+pub sources_widths : (vars : List Var) (inputs : List Bits) → AllByRecursion (λ v. v.init.width ≡ v.width) vars → widths inputs ≡ widths_of vars → widths (sources_of vars inputs) ≡ widths_of vars
+sources_widths [] inputs each is = refl
+sources_widths (v ∷ vars) [] each is = is
+sources_widths (v ∷ vars) (b ∷ inputs) each is =
+    let first : b.width ≡ v.width = cc in
+    let rest : widths inputs ≡ widths_of vars = cc in
+    ap (λ n. n ∷ widths (sources_of vars inputs)) (source_width v.role b v.init v.width first each.0) ∙ ap (λ xs. v.width ∷ xs) (sources_widths vars inputs each.1 rest)
+
+pub length_from_widths : (values : List Bits) (vars : List Var) → widths values ≡ widths_of vars → length values ≡ length vars
+length_from_widths values vars is = sym (length-map values (λ b. b.width)) ∙ ap length is ∙ length-map vars (λ v. v.width)

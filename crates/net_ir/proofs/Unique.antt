@@ -1,0 +1,104 @@
+-- A plain design has at most one solution in a state, and so one trace.
+use Rattle.std.proofs.Common.{◌≡◌, ℕ, zero, suc, ◌<◌, ◌≤◌, ◌^◌, ◌+◌, get_or, List, [], ◌∷◌, ◌++◌, length, map, refl, sym, ◌∙◌, ap, subst, arith, Option, None, Some, inl, inr}
+use Rattle.std.specs.Prelude.{slice_index, slice_get, ◌⊎◌}
+use Rattle.std.specs.List.{AllByRecursion}
+use Rattle.std.specs.Int.{bit_at}
+use Rattle.std.proofs.lemmas.Nat.Bits.{same_from_bits_below}
+use Rattle.std.proofs.lemmas.List.{ext_get_or, get_or_past, get_or-map, length-map}
+use Rattle.std.proofs.lemmas.Option.{slice_get_cases, slice_get_within, get_or_from_slice_get}
+use Rattle.net_ir.specs.declared.design.Role.{Role}
+use Rattle.net_ir.specs.declared.design.Role.TheVariants.{Input, Output}
+use Rattle.net_ir.specs.declared.design.Var.{Var}
+use Rattle.net_ir.specs.declared.design.Spec.{Spec}
+use Rattle.net_ir.specs.Value.{widths_of}
+use Rattle.net_ir.specs.Solution.{Solves, IsValuation}
+use Rattle.net_ir.specs.Plain.{IsPlain, HaveInitialValues, NoneWrites}
+use Rattle.net_ir.specs.Run.{State, at_levels, Step, Values, start, Follows}
+use Rattle.net_ir.specs.Text.{header, line}
+use Rattle.net_ir.specs.Trace.{Shows, GoesOn, IsTrace}
+use Rattle.net_ir.proofs.Order.{ArePositive, AgreeBut, agree_all, none_gives}
+
+-- ---- variables by their numbers
+
+pub length-widths : (vars : List Var) → length (widths_of vars) ≡ length vars
+length-widths vars = length-map vars (λ v. v.width)
+
+pub all_get : {X : Type 0} (P : X → Type 0) (xs : List X) (i : ℕ) (x : X) → AllByRecursion P xs → slice_get xs i ≡ Some x → P x
+all_get P [] i x all is = absurd (let clash : None ≡ Some x = is in cc)
+all_get P (y ∷ xs) zero x all is = subst P (let same : Some y ≡ Some x = is in cc) all.0
+all_get P (y ∷ xs) (suc i) x all is = all_get P xs i x all.1 is
+
+-- the width of a variable that is there
+pub width_is : (vars : List Var) (x : ℕ) (v : Var) → slice_get vars x ≡ Some v → slice_index (widths_of vars) x ≡ v.width
+width_is vars x v is = get_or-map (λ (w : Var). w.width) vars x v 0 (slice_get_within vars x v is) ∙ ap (λ (w : Var). w.width) (get_or_from_slice_get vars x v v is)
+
+-- a variable stands at each number below their count
+pub var_at : (vars : List Var) (x : ℕ) → x < length vars → (v : Var) × (slice_get vars x ≡ Some v)
+var_at vars x within = by_case (slice_get_cases vars x).1 where
+  by_case : ((v : Var) × (x < length vars) × (slice_get vars x ≡ Some v) × (get_or vars x v ≡ v)) ⊎ ((length vars ≤ x) × (slice_get vars x ≡ None)) → (v : Var) × (slice_get vars x ≡ Some v)
+  by_case (inl found) = (found.0, found.2)
+  by_case (inr past) = absurd (let far : length vars ≤ x = past.0 in omega arith)
+
+pub positive_widths : (vars : List Var) → HaveInitialValues vars → ArePositive (widths_of vars)
+positive_widths vars has x within =
+    let found = var_at vars x (subst (λ n. x < n) (length-widths vars) within) in
+    let same : found.0.init.width ≡ found.0.width = all_get (λ (v : Var). v.init.width ≡ v.width) vars x found.0 has found.1 in
+    let one : 1 ≤ found.0.init.width = found.0.init.positive in
+    subst (λ n. 0 < n) (sym (width_is vars x found.0 found.1)) (omega arith)
+
+pub small_words : (vars : List Var) (u : List ℕ) → IsValuation vars u → (x : ℕ) → x < length (widths_of vars) → slice_index u x < 2 ^ slice_index (widths_of vars) x
+small_words vars u valuation x within =
+    let found = var_at vars x (subst (λ n. x < n) (length-widths vars) within) in
+    subst (λ n. slice_index u x < 2 ^ n) (sym (width_is vars x found.0 found.1)) (valuation.fits x found.0 found.1)
+
+-- ---- one solution
+
+input_or_not : (r : Role) → (r ≡ Input) ⊎ (r ≡ Input → ⊥)
+input_or_not Input = inl refl
+input_or_not Output = inr (λ e. cc)
+
+-- two solutions agree where no driver writes
+agree_undriven : (spec : Spec) (state : State) (u v : List ℕ) → IsPlain spec → Solves spec state u → Solves spec state v → AgreeBut (widths_of spec.vars) spec.drivers u v
+agree_undriven spec state u v plain a b x none = by_case (slice_get_cases spec.vars x).1 where
+  by_role : (w : Var) → slice_get spec.vars x ≡ Some w → (w.role ≡ Input) ⊎ (w.role ≡ Input → ⊥) → slice_index u x ≡ slice_index v x
+  by_role w is (inl input) = a.set x w is input ∙ sym (b.set x w is input)
+  by_role w is (inr inner) =
+      let positive = positive_widths spec.vars plain.vars in
+      same_from_bits_below w.width (slice_index u x) (slice_index v x) (a.valuation.fits x w is) (b.valuation.fits x w is) (λ k within.
+      a.undriven x k w is inner within (none_gives (widths_of spec.vars) spec.drivers u x k positive plain.whole none)
+      ∙ sym (b.undriven x k w is inner within (none_gives (widths_of spec.vars) spec.drivers v x k positive plain.whole none)))
+
+  by_case : ((w : Var) × (x < length spec.vars) × (slice_get spec.vars x ≡ Some w) × (get_or spec.vars x w ≡ w)) ⊎ ((length spec.vars ≤ x) × (slice_get spec.vars x ≡ None)) → slice_index u x ≡ slice_index v x
+  by_case (inl found) = by_role found.0 found.2 (input_or_not found.0.role)
+  by_case (inr past) =
+      get_or_past u x 0 (subst (λ n. n ≤ x) (sym a.valuation.each) past.0) ∙ sym (get_or_past v x 0 (subst (λ n. n ≤ x) (sym b.valuation.each) past.0))
+
+pub one_solution : (spec : Spec) (state : State) (u v : List ℕ) → IsPlain spec → Solves spec state u → Solves spec state v → u ≡ v
+one_solution spec state u v plain a b =
+    ext_get_or 0 u v (a.valuation.each ∙ sym b.valuation.each) (λ x within.
+    agree_all (widths_of spec.vars) spec.drivers u v (positive_widths spec.vars plain.vars) plain.whole plain.ordered
+    (λ y there. (small_words spec.vars u a.valuation y there, small_words spec.vars v b.valuation y there))
+    a.driven b.driven (agree_undriven spec state u v plain a b) x)
+
+-- ---- one trace
+
+pub one_line : (spec : Spec) (number : ℕ) (state : State) (a b : List ℕ) → IsPlain spec → Shows spec number state a → Shows spec number state b → a ≡ b
+one_line spec number state a b plain p q = p.2 ∙ ap (line number spec.vars) (one_solution spec state p.0 q.0 plain p.1 q.1) ∙ sym q.2
+
+pub one_next : (spec : Spec) (state : State) (step : Step) (a b : State) → Follows spec state step a → Follows spec state step b → a ≡ b
+one_next spec state (Values settings) a b p q =
+    ap at_levels (p ∙ sym q)
+
+pub one_rest : (spec : Spec) (number : ℕ) (state : State) (steps : List Step) (a b : List ℕ) → IsPlain spec → GoesOn spec number state steps a → GoesOn spec number state steps b → a ≡ b
+one_rest spec number state [] a b plain p q = p ∙ sym q
+one_rest spec number state (step ∷ steps) a b plain p q =
+    let next : p.0 ≡ q.0 = one_next spec state step p.0 q.0 p.3 q.3 in
+    let first : p.1 ≡ q.1 = one_line spec (number + 1) q.0 p.1 q.1 plain (subst (λ s. Shows spec (number + 1) s p.1) next p.4) q.4 in
+    let rest : p.2 ≡ q.2 = one_rest spec (number + 1) q.0 steps p.2 q.2 plain (subst (λ s. GoesOn spec (number + 1) s steps p.2) next p.5) q.5 in
+    p.6 ∙ ap (λ x. x ++ p.2) first ∙ ap (λ x. q.1 ++ x) rest ∙ sym q.6
+
+pub one_trace : (spec : Spec) (steps : List Step) (a b : List ℕ) → IsPlain spec → IsTrace spec steps a → IsTrace spec steps b → a ≡ b
+one_trace spec steps a b plain p q =
+    let first : p.0 ≡ q.0 = one_line spec 0 (start spec) p.0 q.0 plain p.2 q.2 in
+    let rest : p.1 ≡ q.1 = one_rest spec 0 (start spec) steps p.1 q.1 plain p.3 q.3 in
+    p.4 ∙ ap (λ x. header spec.vars ++ x ++ p.1) first ∙ ap (λ x. header spec.vars ++ q.0 ++ x) rest ∙ sym q.4

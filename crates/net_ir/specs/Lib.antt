@@ -1,0 +1,9 @@
+pub mod Value
+pub mod Drive
+pub mod Run
+pub mod Solution
+pub mod Plain
+pub mod Pass
+pub mod Turns
+pub mod Text
+pub mod Trace

@@ -1,0 +1,30 @@
+-- The solution of a design: what each net equals. It names no order.
+use Rattle.std.specs.Prelude.{◌≡◌, ℕ, ◌<◌, ◌^◌, List, Option, None, Some, length, slice_index, slice_get, IfSome}
+use Rattle.std.specs.List.{AllByRecursion}
+use Rattle.std.specs.Int.{bit_at}
+use Rattle.net_ir.specs.declared.design.Role.TheVariants.{Input}
+use Rattle.net_ir.specs.declared.design.Var.{Var}
+use Rattle.net_ir.specs.declared.design.Driver.{Driver}
+use Rattle.net_ir.specs.declared.design.Spec.{Spec}
+use Rattle.net_ir.specs.Value.{widths_of}
+use Rattle.net_ir.specs.Drive.{gives}
+use Rattle.net_ir.specs.Run.{State}
+
+-- there is a word for each variable, and it fits the variable's width
+pub record IsValuation (vars : List Var) (u : List ℕ) : Type 0 where
+  pub each : length u ≡ length vars
+  pub fits : (x : ℕ) (v : Var) → slice_get vars x ≡ Some v → slice_index u x < 2 ^ v.width
+
+-- what a driver gives is what stands in the valuation
+abbrev pub IsDriven : List ℕ → List ℕ → Driver → Type 0
+IsDriven ws u d = (x k bit : ℕ) → gives ws d u x k ≡ Some bit → bit_at (slice_index u x) k ≡ bit
+
+-- u solves the design in this state
+pub record Solves (spec : Spec) (state : State) (u : List ℕ) : Type 0 where
+  pub valuation : IsValuation spec.vars u
+  -- each input is as it is set
+  pub set : (x : ℕ) (v : Var) → slice_get spec.vars x ≡ Some v → v.role ≡ Input → slice_index u x ≡ slice_index state.inputs x
+  -- each bit that a driver writes is what the driver gives on u
+  pub driven : AllByRecursion (IsDriven (widths_of spec.vars) u) spec.drivers
+  -- each other bit has its initial value
+  pub undriven : (x k : ℕ) (v : Var) → slice_get spec.vars x ≡ Some v → (v.role ≡ Input → ⊥) → k < v.width → AllByRecursion (λ d. gives (widths_of spec.vars) d u x k ≡ None) spec.drivers → bit_at (slice_index u x) k ≡ bit_at v.init.word k

@@ -1,0 +1,54 @@
+-- The value of an expression (IEEE 1800-2017, 11.4, 11.6 and 11.8), once every size and sign is decided.
+use Rattle.std.specs.Prelude.{ℕ, List, [], ◌∷◌, map, slice_index}
+use Rattle.std.specs.List.{flat_map}
+use Rattle.bit_ops.specs.Rows.{value_of}
+use Rattle.bit_ops.specs.declared.value.Bits.{Bits}
+use Rattle.net_ir.specs.declared.term.Term.{Term}
+use Rattle.net_ir.specs.declared.term.Term.TheOpen.{Term-F, Const, Read, Apply}
+use Rattle.net_ir.specs.declared.term.Term.TheFolds.{fold-Term}
+use Rattle.net_ir.specs.declared.design.Var.{Var}
+
+-- the words of values; a valuation is such a list, with a word for each variable by its number
+abbrev pub words : List Bits → List ℕ
+words values = map (λ b. b.word) values
+
+-- the widths of values
+abbrev pub widths : List Bits → List ℕ
+widths values = map (λ b. b.width) values
+
+-- the widths and the words of values, as an operation takes them
+abbrev pub operands : List Bits → List (ℕ × ℕ)
+operands values = map (λ b. (b.width, b.word)) values
+
+-- the widths of variables
+abbrev pub widths_of : List Var → List ℕ
+widths_of vars = map (λ v. v.width) vars
+
+-- the width and the word of a term, from those of its operands: a read is the variable's width and word, and an
+-- operation is its row of the table of operations
+abbrev pub operand_of_layer : List ℕ → List ℕ → Term-F (ℕ × ℕ) → ℕ × ℕ
+operand_of_layer ws u (Const bits) = (bits.width, bits.word)
+operand_of_layer ws u (Read var place) = (slice_index ws var, slice_index u var)
+operand_of_layer ws u (Apply op width lo args) = (width, value_of op width lo args)
+
+-- the width and the word of a term, where ws are the widths of the variables and u is a valuation
+abbrev pub operand_of : List ℕ → List ℕ → Term → ℕ × ℕ
+operand_of ws u = fold-Term (ℕ × ℕ) (operand_of_layer ws u)
+
+-- the value of a term on a valuation
+abbrev pub val : List ℕ → List ℕ → Term → ℕ
+val ws u term = (operand_of ws u term).1
+
+-- the size of a term in bits
+abbrev pub size : List ℕ → Term → ℕ
+size ws term = (operand_of ws [] term).0
+
+-- the variables that a term reads, from those that its operands read
+abbrev pub reads_of_layer : Term-F (List ℕ) → List ℕ
+reads_of_layer (Const bits) = []
+reads_of_layer (Read var place) = var ∷ []
+reads_of_layer (Apply op width lo args) = flat_map (λ reads. reads) args
+
+-- the variables that a term reads
+abbrev pub reads_of : Term → List ℕ
+reads_of = fold-Term (List ℕ) reads_of_layer

@@ -1,0 +1,18 @@
+//! Laws of the definitions, each the contract of a function that does nothing.
+
+ghost use Rattle.std.specs.Prelude.{◌≡◌, ℕ, List};
+ghost use Rattle.net_ir.specs.declared.design.Spec.{Spec};
+ghost use Rattle.net_ir.specs.Plain.{IsPlain};
+ghost use Rattle.net_ir.specs.Solution.{Solves};
+ghost use Rattle.net_ir.specs.Run.{State, Step};
+ghost use Rattle.net_ir.specs.Trace.{IsTrace};
+
+/// A plain design has at most one solution in a state.
+pub fn one_solution()
+    ensures { (spec : Spec) (state : State) (u v : List ℕ) → IsPlain spec → Solves spec state u → Solves spec state v → u ≡ v }
+{}
+
+/// A plain design has at most one trace over given steps.
+pub fn one_trace()
+    ensures { (spec : Spec) (steps : List Step) (a b : List ℕ) → IsPlain spec → IsTrace spec steps a → IsTrace spec steps b → a ≡ b }
+{}

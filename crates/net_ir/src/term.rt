@@ -1,0 +1,22 @@
+use bit_ops::{Bits, Op};
+use sqlite_items::Items;
+use sv_base::Place;
+
+/// An expression with every size and sign decided (IEEE 1800-2017, 11.6 and 11.8).
+#[derive(Drop)]
+pub enum Term {
+    Const(Bits),
+    /// The whole of a variable, by its number.
+    Read {
+        var: u32,
+        place: Place,
+    },
+    /// An operation on the values of terms: the result's width in bits, and the position that the operation's
+    /// row names, 0 where it names none.
+    Apply {
+        op: Op,
+        width: u32,
+        lo: u32,
+        args: Items<Term>,
+    },
+}
