@@ -56,10 +56,19 @@ kind_of form.OpenComment = None
 kind_of form.Directive = None
 kind_of form.OtherDirective = None
 
+-- the text of a token: its piece as it is spelled; a mark has none
+abbrev pub text_of : TokenKind → List ℕ → List ℕ
+text_of token.Mark piece = []
+text_of token.Word piece = piece
+text_of token.System piece = piece
+text_of token.Number piece = piece
+text_of token.Fill piece = piece
+text_of token.Sign piece = piece
+
 -- the token that a piece is, after this many LFs
 abbrev pub token_of : ℕ → ℕ → List ℕ → Option TokenKind → Option Token
-token_of file ends text None = None
-token_of file ends text (Some k) = Some (record { kind = k; text = text; place = place_at file ends })
+token_of file ends piece None = None
+token_of file ends piece (Some k) = Some (record { kind = k; text = text_of k piece; place = place_at file ends })
 
 -- the tokens of the pieces in order, after this many LFs
 abbrev pub tokens_of : ℕ → ℕ → List Piece → List Token

@@ -84,19 +84,33 @@ fn place_at(file: u32, ends: usize) -> Place
     Place { file, line }
 }
 
+/// The text of a token of this kind: its piece as it is spelled. A mark has none.
+fn text_of(alloc: Global, kind: TokenKind, piece: &[u8]) -> Result<Name, AllocError>
+    ensures { IfOk result (λ text. text ≡ cutting.text_of kind piece.now) }
+{
+    match kind {
+        TokenKind::Mark => Ok(Name::empty(alloc)),
+        TokenKind::Word
+        | TokenKind::System
+        | TokenKind::Number
+        | TokenKind::Fill
+        | TokenKind::Sign => Name::of(alloc, piece),
+    }
+}
+
 /// Adds the token that a piece is, if it is one.
 fn add_token(
     alloc: Global,
     tokens: &mut Sequence<Token>,
     found: Found,
-    text: &[u8],
+    piece: &[u8],
     file: u32,
     ends: usize,
 ) -> Result<(), AllocError>
-    ensures { OnOk result (tokens.new ≡ tokens.old ++ added file ends found.form text.now) }
+    ensures { OnOk result (tokens.new ≡ tokens.old ++ added file ends found.form piece.now) }
 {
     if let Some(kind) = kind_of(found.form) {
-        let text = Name::of(alloc, text)?;
+        let text = text_of(alloc, kind, piece)?;
         tokens.push(Token {
             kind,
             text,

@@ -5,7 +5,7 @@ use std::test::Fail;
 use sv_base::{Kind, Refusal, Sequence};
 
 /// Texts that are one token, with its kind.
-const SINGLES: [(TokenKind, &[u8]); 112] = [
+const SINGLES: [(TokenKind, &[u8]); 107] = [
     (TokenKind::Sign, b"<<<"),
     (TokenKind::Sign, b">>>"),
     (TokenKind::Sign, b"==="),
@@ -102,11 +102,6 @@ const SINGLES: [(TokenKind, &[u8]); 112] = [
     (TokenKind::Number, b"'hffff_ffff"),
     (TokenKind::Number, b"'sh8000_0000"),
     (TokenKind::Number, b"'o37777777777"),
-    (TokenKind::Mark, b"/*verilator hier_block*/"),
-    (TokenKind::Mark, b"/* verilator  hier_block */"),
-    (TokenKind::Mark, b"/*\tverilator\n\x0c\rhier_block\n*/"),
-    (TokenKind::Mark, b"//verilator hier_block"),
-    (TokenKind::Mark, b"// verilator\thier_block \r"),
     (TokenKind::Number, b"9"),
     (TokenKind::Number, b"3'b1111"),
     (TokenKind::Number, b"32'hdead_beef"),
@@ -118,6 +113,15 @@ const SINGLES: [(TokenKind, &[u8]); 112] = [
     (TokenKind::Word, b"endgenerate"),
     (TokenKind::Word, b"z"),
     (TokenKind::System, b"$unsigned"),
+];
+
+/// Texts that are one mark each.
+const MARKS: [&[u8]; 5] = [
+    b"/*verilator hier_block*/",
+    b"/* verilator  hier_block */",
+    b"/*\tverilator\n\x0c\rhier_block\n*/",
+    b"//verilator hier_block",
+    b"// verilator\thier_block \r",
 ];
 
 /// Texts with their tokens, each as its kind's letter (`w` word, `y` system name, `n` number, `f` fill, `s` sign,
@@ -160,10 +164,7 @@ const LISTS: [(&[u8], &[u8]); 42] = [
     (b"4'0", b"n 4 1;f '0 1;"),
     (b"4 'b1", b"n 4 1;n 'b1 1;"),
     (b"'1'1", b"f '1 1;f '1 1;"),
-    (
-        b"a\n/* verilator hier_block\n*/\nb",
-        b"w a 1;m /* verilator hier_block\n*/ 2;w b 4;",
-    ),
+    (b"a\n/* verilator hier_block\n*/\nb", b"w a 1;m  2;w b 4;"),
     (b"/*verilatorhier_block*/a", b"w a 1;"),
     (b"/*verilator hier_block x*/a", b"w a 1;"),
     (b"//verilator\nhier_block", b"w hier_block 2;"),
@@ -286,6 +287,26 @@ fn each_is_one_token(
 #[test]
 fn each_spelling_is_one_token(rt: HostRuntime) -> Result<(), Fail> {
     each_is_one_token(&rt, rt.alloc(), &SINGLES)?;
+    Ok(())
+}
+
+fn each_is_one_mark(rt: &impl Abort, alloc: Global, rows: &[&[u8]]) -> Result<(), LexFault> {
+    for text in rows {
+        let tokens = lex(alloc, 3, *text)?;
+        assert_eq!(rt; tokens.len(), 1, "{text:?}");
+        for token in tokens.as_slice() {
+            assert_eq!(rt; token.kind, TokenKind::Mark, "{text:?}");
+            assert_eq!(rt; token.text.bytes(), b"".as_slice());
+            assert_eq!(rt; token.place.file, 3);
+            assert_eq!(rt; token.place.line, 1);
+        }
+    }
+    Ok(())
+}
+
+#[test]
+fn a_mark_has_no_text(rt: HostRuntime) -> Result<(), Fail> {
+    each_is_one_mark(&rt, rt.alloc(), &MARKS)?;
     Ok(())
 }
 

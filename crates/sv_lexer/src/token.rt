@@ -21,7 +21,7 @@ pub enum TokenKind {
     Mark,
 }
 
-/// A token as it is spelled, with the place at which it begins. The text of a mark is its whole comment.
+/// A token as it is spelled, with the place at which it begins. The text of a mark is empty.
 #[derive(Debug, Drop)]
 pub struct Token {
     pub kind: TokenKind,
