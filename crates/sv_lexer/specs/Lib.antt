@@ -1,0 +1,4 @@
+pub mod Bytes
+pub mod Piece
+pub mod Cutting
+pub mod Scan

@@ -1,0 +1,89 @@
+ghost use Rattle.std.specs.Prelude.{◌≡◌, ◌<◌, ◌≤◌, ◌+◌, ◌*◌, ◌^◌, length, MatchOption, true, false};
+ghost use Rattle.sv_lexer.specs.Bytes as bytes_spec;
+ghost use Rattle.sv_lexer.specs.Piece as piece_spec;
+
+use crate::form::Base;
+use crate::run::{digit_value, is_unknown, radix};
+use sv_base::Kind;
+
+/// The greatest width of a value in bits.
+const GREATEST_WIDTH: u64 = 64;
+
+/// One more digit, where a word holds the value.
+fn with_digit(value: u64, radix: u64, digit: u64) -> Option<u64>
+    ensures { MatchOption result (2 ^ 64 ≤ value * radix + digit) (λ v. v ≡ value * radix + digit) }
+{
+    value.checked_mul(radix)?.checked_add(digit)
+}
+
+/// The number that the digits spell, where a word holds it.
+fn value_of(radix: u64, mut digits: &[u8]) -> Option<u64>
+    requires { 1 ≤ radix }
+    ensures { MatchOption result (2 ^ 64 ≤ bytes_spec.spelled radix digits.entry.now) (λ v. v ≡ bytes_spec.spelled radix digits.entry.now) }
+{
+    let mut value = 0;
+    while let [digit, rest @ ..] = digits {
+        if *digit != b'_' {
+            let Some(more) = with_digit(value, radix, digit_value(*digit)) else {
+                return None;
+            };
+            value = more;
+        }
+        digits = rest;
+    }
+    Some(value)
+}
+
+/// What is wrong with a decimal number.
+pub fn decimal_fault(piece: &[u8]) -> Option<Kind>
+    ensures { result ≡ piece_spec.decimal_fault piece.now }
+{
+    match value_of(10, piece) {
+        Some(value) if value <= 2147483647 => None,
+        _ => Some(Kind::BadNumber),
+    }
+}
+
+fn has_unknown(digits: &[u8]) -> bool
+    ensures { result ≡ piece_spec.has_unknown digits.now }
+{
+    digits.iter().any(|digit| is_unknown(*digit))
+}
+
+/// The value of the digits, where they are allowed.
+fn good_value(base: Base, digits: &[u8]) -> Option<u64>
+    ensures { MatchOption result (piece_spec.has_bad_digits base digits.now ≡ true)
+        (λ v. (piece_spec.has_bad_digits base digits.now ≡ false) × (v ≡ bytes_spec.spelled (bytes_spec.radix base) digits.now)) }
+{
+    if digits.is_empty() || has_unknown(digits) {
+        None
+    } else {
+        value_of(radix(base), digits)
+    }
+}
+
+fn size_fault(size: &[u8]) -> Option<Kind>
+    ensures { result ≡ piece_spec.size_fault size.now }
+{
+    match value_of(10, size) {
+        Some(0) => Some(Kind::BadNumber),
+        Some(width) if width <= GREATEST_WIDTH => None,
+        _ => Some(Kind::TooWide),
+    }
+}
+
+/// What is wrong with a based number of this size, base and digits. Bad digits come before a bad size.
+pub fn based_fault(size: &[u8], base: Base, digits: &[u8]) -> Option<Kind>
+    ensures { result ≡ piece_spec.based_fault size.now base digits.now }
+{
+    let Some(value) = good_value(base, digits) else {
+        return Some(Kind::BadNumber);
+    };
+    if !size.is_empty() {
+        size_fault(size)
+    } else if value <= 0xffff_ffff {
+        None
+    } else {
+        Some(Kind::BadNumber)
+    }
+}
