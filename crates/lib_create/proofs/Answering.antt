@@ -6,9 +6,9 @@ use Rattle.io_edge.specs.Fault.{Rose}
 use Rattle.io_edge.specs.Told.{Added, AddedFront, added_front}
 use Rattle.lib_create.specs.declared.stop.Stop.{Stop}
 use Rattle.lib_create.specs.declared.stop.Stop.TheVariants.{ReadFault, WriteFault, NoMemory}
-use Rattle.lib_create.specs.Outcome.{Verdict, Done, Misused, SourceAbsent, SourceRefused, StimulusAbsent, Bad, status_of, message_of, Ends, Outcome, IsOutcome}
+use Rattle.lib_create.specs.Outcome.{Verdict, Done, Misused, SourceAbsent, SourceRefused, StimulusAbsent, Bad, status_of, message_of, Ends}
 use Rattle.lib_create.specs.Playing.{IsPlayCause}
-use Rattle.lib_create.specs.Answer.{read_fault, write_fault, no_memory, Answered, CutShort, CutMessage, Completed}
+use Rattle.lib_create.specs.Answer.{write_fault, no_memory, Answered, CutShort, CutMessage, Completed}
 use Rattle.lib_create.specs.Telling.{ToldAs, stop_status, stop_text}
 use Rattle.lib_create.proofs.Ending.{OneEnd}
 
@@ -88,9 +88,11 @@ pub end_complete : (content : Option Files) (words : List (List ℕ)) (verdict :
 end_complete None words verdict answer failed ob oa before after one gave told none = tt
 end_complete (Some files) words verdict answer failed ob oa before after one gave (inl (inl told)) none = λ outcome is.
     let same = one files words verdict is.verdict gave.0 outcome.out gave.1 is.ends in
-    inl (told.0 ∙ ap status_of same.0 ∙ sym is.status,
+    inl (
+      told.0 ∙ ap status_of same.0 ∙ sym is.status,
       subst (λ xs. Added ob oa xs) same.1 gave.2,
-      subst (λ xs. Added before after xs) (ap message_of same.0 ∙ sym is.message) told.1)
+      subst (λ xs. Added before after xs) (ap message_of same.0 ∙ sym is.message) told.1,
+    )
 end_complete (Some files) words verdict answer failed ob oa before after one gave (inl (inr told)) none = absurd (none told.1)
 end_complete (Some files) words verdict answer failed ob oa before after one gave (inr (inl told)) none = λ outcome is. inr told.0
 end_complete (Some files) words verdict answer failed ob oa before after one gave (inr (inr told)) none = absurd (none told.1)

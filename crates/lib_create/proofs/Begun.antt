@@ -1,17 +1,16 @@
 -- A trace from its header on.
-use Rattle.std.proofs.Common.{◌≡◌, ℕ, List, [], ◌∷◌, ◌++◌, refl, sym, ◌∙◌, ap, subst, append_assoc, Option, None, Some, inl, inr}
-use Rattle.std.proofs.lemmas.List.{append-nil}
+use Rattle.std.proofs.Common.{◌≡◌, ℕ, List, [], ◌++◌, refl, sym, ◌∙◌, ap, subst, append_assoc, Option, None, Some}
 use Rattle.std.specs.Prelude.{IfSome}
 use Rattle.std.specs.FinMap.{get}
 use Rattle.io_edge.specs.File.{Files}
-use Rattle.io_edge.specs.Told.{Added, AddedFront, added_nothing, added_both, added_front, added_front_after, added_front_of_more}
+use Rattle.io_edge.specs.Told.{Added, AddedFront, added_both, added_front_after, added_front_of_more}
 use Rattle.net_ir.specs.declared.design.Spec.{Spec}
-use Rattle.net_ir.specs.Run.{State, Step, start, at_levels}
+use Rattle.net_ir.specs.Run.{State, start}
 use Rattle.net_ir.specs.Text.{header}
-use Rattle.net_ir.specs.Trace.{Shows, GoesOn, IsTrace}
-use Rattle.lib_create.specs.Stimulus.{BadLine, Script, script_of}
-use Rattle.lib_create.specs.Outcome.{Verdict, StimulusAbsent, step_limit, verdict_of_bad, EndsWithStimulus}
-use Rattle.lib_create.specs.Playing.{Played, PlayedFront, Began, TraceFront, Followed, FollowedFront}
+use Rattle.net_ir.specs.Trace.{Shows}
+use Rattle.lib_create.specs.Stimulus.{script_of}
+use Rattle.lib_create.specs.Outcome.{Verdict, step_limit, verdict_of_bad, EndsWithStimulus}
+use Rattle.lib_create.specs.Playing.{Began, TraceFront, Followed, FollowedFront}
 
 abbrev pub OneLine : Spec → Type 0
 OneLine spec = (n : ℕ) (s : State) (a b : List ℕ) → Shows spec n s a → Shows spec n s b → a ≡ b
@@ -38,10 +37,11 @@ pub followed : (spec : Spec) (found : Option (List ℕ)) (verdict : Verdict) (be
 followed spec None verdict before mid after began follows =
     (header spec.vars ++ began.line ++ [], (follows.0, (began.line, [], began.shows, refl, refl)), added_both before mid after (header spec.vars ++ began.line) [] began.added follows.1)
 followed spec (Some bytes) verdict before mid after began follows =
-    let played = follows.1 in
-    (header spec.vars ++ began.line ++ played.bytes,
+    let played = follows.1 in (
+      header spec.vars ++ began.line ++ played.bytes,
       (follows.2 ∙ ap verdict_of_bad played.bad_line, (began.line, played.bytes, began.shows, played.goes_on, refl)),
-      added_both before mid after (header spec.vars ++ began.line) played.bytes began.added played.added)
+      added_both before mid after (header spec.vars ++ began.line) played.bytes began.added played.added,
+    )
 
 pub follow_cut : (spec : Spec) (found : Option (List ℕ)) (before mid after : Option (List ℕ)) → OneLine spec → Began spec before mid → FollowedFront spec found mid after → (verdict : Verdict) (trace : List ℕ) → EndsWithStimulus spec found verdict trace → AddedFront before after trace
 follow_cut spec None before mid after one began front verdict trace ends =

@@ -1,13 +1,13 @@
 -- The values of a design that is stepped.
 use Rattle.std.proofs.Common.{◌≡◌, ℕ, zero, suc, ◌<◌, ◌≤◌, ◌+◌, List, [], ◌∷◌, ◌++◌, length, map, drop, get_or, refl, sym, ◌∙◌, ap, subst, arith, add-one, drop-cons, append_assoc, Some}
-use Rattle.std.specs.Prelude.{slice_get, slice_index, slice_set}
+use Rattle.std.specs.Prelude.{slice_get, slice_set}
 use Rattle.std.specs.List.{AllByRecursion}
 use Rattle.std.proofs.lemmas.List.{drop_all, append-nil, length-map, map-append}
 use Rattle.bit_ops.specs.declared.value.Bits.{Bits}
 use Rattle.net_ir.specs.declared.design.Var.{Var}
 use Rattle.net_ir.specs.Value.{words, widths, widths_of}
 use Rattle.net_ir.specs.Run.{set_all}
-use Rattle.lib_create.specs.StimulusReading.{IsSettable, setting_seen, settings_seen}
+use Rattle.lib_create.specs.StimulusReading.{IsSettable, settings_seen}
 use Rattle.lib_create.specs.declared.setting.Setting.{Setting}
 
 all_at : {X : Type 0} (P : X → Type 0) (xs : List X) (i : ℕ) (x : X) → AllByRecursion P xs → i < length xs → x ≡ get_or xs i x → P x

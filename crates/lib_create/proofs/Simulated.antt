@@ -36,15 +36,19 @@ refused files sim (Some bytes) refusal same is = inr (is, ap (SourceRefused sim.
 
 pub absent_told : (content : Option Files) (words : List (List ℕ)) (sim : Sim) (found : Compiled) (before : Option (List ℕ)) → Ok sim ≡ meaning_of words → IfSome content (λ files. IsCompiled (get files sim.file) sim.top found) → found ≡ Absent → IfSome content (λ files. (trace : List ℕ) × Ends files words (SourceAbsent sim.file) trace × Added before before trace)
 absent_told content words sim found before said compiled is =
-    IfSome_then content compiled (λ files compiled. ([],
+    IfSome_then content compiled (λ files compiled. (
+      [],
       with_source files words sim (SourceAbsent sim.file) [] said (absent files sim (get files sim.file) (subst (IsCompiled (get files sim.file) sim.top) is compiled)),
-      added_nothing before))
+      added_nothing before,
+    ))
 
 pub refused_told : (content : Option Files) (words : List (List ℕ)) (sim : Sim) (found : Compiled) (refusal : Refusal) (before : Option (List ℕ)) → Ok sim ≡ meaning_of words → IfSome content (λ files. IsCompiled (get files sim.file) sim.top found) → found ≡ Refused → refusal ≡ not_plain → IfSome content (λ files. (trace : List ℕ) × Ends files words (SourceRefused sim.file refusal) trace × Added before before trace)
 refused_told content words sim found refusal before said compiled is same =
-    IfSome_then content compiled (λ files compiled. ([],
+    IfSome_then content compiled (λ files compiled. (
+      [],
       with_source files words sim (SourceRefused sim.file refusal) [] said (refused files sim (get files sim.file) refusal same (subst (IsCompiled (get files sim.file) sim.top) is compiled)),
-      added_nothing before))
+      added_nothing before,
+    ))
 
 -- ---- there is a design
 
@@ -56,7 +60,7 @@ design : (files : Files) (sim : Sim) (held : Option (List ℕ)) (spec : Spec) (v
 design files sim None spec verdict trace one is ends = absurd is
 design files sim (Some bytes) spec verdict trace one (m, source, same) (inl (other, found, ends)) =
     subst (λ s. EndsWithStimulus s (get files sim.stimulus) verdict trace)
-      (ap design_of (one bytes other m found.spells source.spells) ∙ sym same) ends
+    (ap design_of (one bytes other m found.spells source.spells) ∙ sym same) ends
 design files sim (Some bytes) spec verdict trace one (m, source, same) (inr (no_source, told, empty)) = absurd (no_source m source)
 
 -- of each trace of a run of the design, a front was added
@@ -66,10 +70,10 @@ DesignFront spec held before after = (verdict : Verdict) (trace : List ℕ) → 
 design_cut : (files : Files) (words : List (List ℕ)) (sim : Sim) (spec : Spec) (before after : Option (List ℕ)) → OneModule → Ok sim ≡ meaning_of words → IsCompiled (get files sim.file) sim.top (Design spec) → DesignFront spec (get files sim.stimulus) before after → (verdict : Verdict) (trace : List ℕ) → Ends files words verdict trace → AddedFront before after trace
 design_cut files words sim spec before after one said compiled cut verdict trace ends =
     cut verdict trace
-      (design files sim (get files sim.file) spec verdict trace one compiled (of_source files words sim verdict trace said ends))
+    (design files sim (get files sim.file) spec verdict trace one compiled (of_source files words sim verdict trace said ends))
 
 pub design_cut_told : (content later : Option Files) (words : List (List ℕ)) (sim : Sim) (found : Compiled) (spec : Spec) (before after : Option (List ℕ)) → OneModule → Ok sim ≡ meaning_of words → later ≡ content → IfSome content (λ files. IsCompiled (get files sim.file) sim.top found) → found ≡ Design spec → IfSome later (λ files. DesignFront spec (get files sim.stimulus) before after) → IfSome content (λ files. (verdict : Verdict) (trace : List ℕ) → Ends files words verdict trace → AddedFront before after trace)
 design_cut_told None later words sim found spec before after one said unchanged compiled is cut = tt
 design_cut_told (Some files) later words sim found spec before after one said unchanged compiled is cut =
     design_cut files words sim spec before after one said (subst (IsCompiled (get files sim.file) sim.top) is compiled)
-      (subst (λ told. IfSome told (λ files. DesignFront spec (get files sim.stimulus) before after)) unchanged cut)
+    (subst (λ told. IfSome told (λ files. DesignFront spec (get files sim.stimulus) before after)) unchanged cut)

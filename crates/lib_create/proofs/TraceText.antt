@@ -1,5 +1,5 @@
 -- The text of a trace, digit by digit and port by port.
-use Rattle.std.proofs.Common.{◌≡◌, ℕ, zero, suc, ◌<◌, ◌≤◌, ◌^◌, ◌+◌, ◌*◌, ◌/◌, ◌%◌, List, [], ◌∷◌, ◌++◌, length, map, drop, get_or, ◌-◌, bit_and, append_assoc, add-one, refl, sym, ◌∙◌, ap, subst, arith}
+use Rattle.std.proofs.Common.{◌≡◌, ℕ, zero, suc, ◌<◌, ◌≤◌, ◌^◌, ◌+◌, ◌*◌, ◌/◌, ◌%◌, List, [], ◌∷◌, ◌++◌, length, drop, get_or, ◌-◌, bit_and, append_assoc, add-one, refl, sym, ◌∙◌, ap, subst, arith}
 use Rattle.std.proofs.Common.{pow-add}
 use Rattle.std.proofs.lemmas.List.{drop_all, append-nil}
 use Rattle.std.proofs.lemmas.Nat.{and_mask}

@@ -1,9 +1,6 @@
 -- What an answer of the program says of the bytes that it has written.
-use Rattle.std.specs.Prelude.{◌≡◌, ℕ, ◌≤◌, List, ◌++◌, [], ◌∷◌, codes, Option, None, Some, map, ◌⊎◌}
-use Rattle.std.specs.String.{string_bytes}
-use Rattle.std.specs.declared.string.String.{String}
+use Rattle.std.specs.Prelude.{◌≡◌, ℕ, List, ◌++◌, [], ◌∷◌, codes, Option, ◌⊎◌}
 use Rattle.io_edge.specs.File.{Files}
-use Rattle.io_edge.specs.Fault.{Rose}
 use Rattle.io_edge.specs.Told.{Added, AddedFront}
 use Rattle.lib_create.specs.Outcome.{Outcome, IsOutcome}
 

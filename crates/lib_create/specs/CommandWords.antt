@@ -1,5 +1,5 @@
 -- The words of the command line as the program keeps them.
-use Rattle.std.specs.Prelude.{ℕ, List, Result, Ok, Err}
+use Rattle.std.specs.Prelude.{Result, Ok, Err}
 use Rattle.lib_create.specs.declared.command.Sim as kept
 use Rattle.lib_create.specs.declared.command.Misuse as refused
 use Rattle.lib_create.specs.declared.command.Misuse.TheVariants as cause

@@ -1,12 +1,11 @@
 -- The design that a module of the first grammar means.
-use Rattle.std.specs.Prelude.{◌≡◌, ℕ, Bool, true, false, List, [], ◌∷◌, ◌++◌, map, Option, None, Some, unwrap_or, IsSome}
+use Rattle.std.specs.Prelude.{◌≡◌, ℕ, Bool, true, false, List, [], ◌∷◌, ◌++◌, map, Option, unwrap_or, IsSome}
 use Rattle.std.specs.List.{position, IsDistinct, AllByRecursion}
 use Rattle.std.specs.Str.{bytes_eq}
 use Rattle.std.proofs.Common.{lit≤, lit<}
 use Rattle.bit_ops.specs.declared.value.Bits.{Bits}
 use Rattle.bit_ops.specs.declared.operation.Op.{Op}
 use Rattle.bit_ops.specs.declared.operation.Op.TheVariants as op
-use Rattle.sv_base.specs.declared.refusal.Place.{Place}
 use Rattle.net_ir.specs.declared.term.Term.{Term, Read, Apply}
 use Rattle.net_ir.specs.declared.design.Role.{Role}
 use Rattle.net_ir.specs.declared.design.Role.TheVariants as role

@@ -1,7 +1,6 @@
 -- The first grammar: which module a source text spells.
-use Rattle.std.specs.Prelude.{◌≡◌, ℕ, ◌+◌, ◌<◌, ◌≤◌, Bool, true, false, ◌==◌, ◌||◌, List, [], ◌∷◌, ◌++◌, length, map, count_by, codes, Option, None, Some, IsTrue, ◌⊎◌}
-use Rattle.std.specs.List.{flat_map, list_all, AllByRecursion}
-use Rattle.sv_base.specs.declared.refusal.Place.{Place}
+use Rattle.std.specs.Prelude.{◌≡◌, ℕ, ◌+◌, ◌<◌, ◌≤◌, Bool, true, false, ◌==◌, ◌||◌, List, [], ◌∷◌, ◌++◌, length, count_by, codes, IsTrue, ◌⊎◌}
+use Rattle.std.specs.List.{flat_map, list_all}
 use Rattle.lib_create.specs.Spelling.{begins_name, continues_name, is_name, is_reserved}
 use Rattle.lib_create.specs.declared.token.Token.{Token}
 use Rattle.lib_create.specs.declared.tree.Direction.{Direction}

@@ -1,5 +1,4 @@
 -- Verdicts as the program keeps them.
-use Rattle.std.specs.Prelude.{ℕ, List}
 use Rattle.lib_create.specs.declared.verdict.BadLine as kept_line
 use Rattle.lib_create.specs.declared.verdict.Verdict as kept
 use Rattle.lib_create.specs.declared.verdict.Verdict.TheVariants as ends

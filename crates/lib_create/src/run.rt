@@ -44,8 +44,8 @@ pub fn run_words<D: Folder, K: Sink, E: Sink, F: Fn(u32, u32) -> u32>(
     ensures write_fault_told { result ≡ 8 → (Rose (E.faults err.old) (E.faults err.new) → ⊥) → Added (E.written err.old) (E.written err.new) write_fault }
     ensures message_cut { result ≡ 8 → IfSome (D.content folder.old) (λ files.
         CutMessage files (map string_bytes words.now.items)
-            (Rose (K.faults out.old) (K.faults out.new) ⊎ Rose (D.write_faults folder.old) (D.write_faults folder.new))
-            (Rose (D.read_faults folder.old) (D.read_faults folder.new)) (E.written err.old) (E.written err.new)) }
+        (Rose (K.faults out.old) (K.faults out.new) ⊎ Rose (D.write_faults folder.old) (D.write_faults folder.new))
+        (Rose (D.read_faults folder.old) (D.read_faults folder.new)) (E.written err.old) (E.written err.new)) }
 
     // A fault is answered only where a count of faults rose in this call.
     ensures read_fault_cause { result ≡ 7 → Rose (D.read_faults folder.old) (D.read_faults folder.new) }
@@ -65,7 +65,7 @@ pub fn run_words<D: Folder, K: Sink, E: Sink, F: Fn(u32, u32) -> u32>(
         → (Rose (K.faults out.old) (K.faults out.new) → ⊥) → (Rose (E.faults err.old) (E.faults err.new) → ⊥)
         → (Rose (D.write_faults folder.old) (D.write_faults folder.new) → ⊥)
         → IfSome (D.content folder.old) (λ files.
-            Completed files (map string_bytes words.now.items) result (K.written out.old) (K.written out.new) (E.written err.old) (E.written err.new)) }
+        Completed files (map string_bytes words.now.items) result (K.written out.old) (K.written out.new) (E.written err.old) (E.written err.new)) }
 {
     law::one_end();
     match simulate(alloc, words.as_slice(), folder, out) {

@@ -13,9 +13,9 @@ returns-in-None-clause-compiled c =
 
 pub elaborate-requires : goal.elaborate-requires
 elaborate-requires c = record {
-    few = few_ports c.args.bytes.now c.in-Some.module c.requires.short
+  few = few_ports c.args.bytes.now c.in-Some.module c.requires.short
       (some_at (λ m. Spells 1 c.args.bytes.now m) c.in_ok-read_source.field-0 c.in-Some.module c.in-Some.is c.in_ok-read_source.ensures.some);
-  }
+}
 
 pub returns-in-None-2-clause-compiled : goal.returns-in-None-2-clause-compiled
 returns-in-None-2-clause-compiled c =

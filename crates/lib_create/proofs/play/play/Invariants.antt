@@ -15,8 +15,8 @@ invariant-steps g l = record {
   source_later : g.S.Source.faults l.fn.source ≤ g.S.Source.faults l.source;
   out_later : g.K.Sink.faults l.fn.out ≤ g.K.Sink.faults l.out;
   so_far : (bytes : List ℕ) → g.S.Source.left l.fn.source ≡ Some bytes →
-    (rest written : List ℕ) × (g.S.Source.left l.source ≡ Some rest) × Added (g.K.Sink.written l.fn.out) (g.K.Sink.written l.out) written
-    × HasPlayed l.spec (at_levels (words l.fn.inputs.items)) (script_left l.spec.vars l.fn.reader bytes) written l.number (at_levels (words l.inputs.items)) (script_left l.spec.vars l.reader rest);
+      (rest written : List ℕ) × (g.S.Source.left l.source ≡ Some rest) × Added (g.K.Sink.written l.fn.out) (g.K.Sink.written l.out) written
+      × HasPlayed l.spec (at_levels (words l.fn.inputs.items)) (script_left l.spec.vars l.fn.reader bytes) written l.number (at_levels (words l.inputs.items)) (script_left l.spec.vars l.reader rest);
 }
 
 abbrev pub decreases-steps : goal.decreases-steps

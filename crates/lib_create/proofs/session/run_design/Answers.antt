@@ -9,7 +9,7 @@ returns-in-Err-begin-clause-cut g c =
 pub returns-in-Err-follow-clause-cut : goal.returns-in-Err-follow-clause-cut
 returns-in-Err-follow-clause-cut g c =
     follow_cut_told c.args.spec.now (g.D.Folder.content c.args.folder.now) c.args.stimulus.now _ _ _
-        (λ n s a b. c.one_line.ensures c.args.spec.now n s a b c.requires) c.in-Ok-begin.ensures.began c.in-Err-follow.ensures.cut
+    (λ n s a b. c.one_line.ensures c.args.spec.now n s a b c.requires) c.in-Ok-begin.ensures.began c.in-Err-follow.ensures.cut
 
 pub returns-clause-ends : goal.returns-clause-ends
 returns-clause-ends g c =
