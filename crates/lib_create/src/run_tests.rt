@@ -1,1 +1,398 @@
 //! Rows of the program's outcomes: words and files, and the bytes and the status that they give.
+
+ghost use Rattle.std.specs.Prelude.{◌<◌};
+ghost use Rattle.lib_create.specs.Order.{Picks};
+
+use crate::order::Order;
+use crate::run::run_words;
+use io_edge::{MemFolder, MemSink};
+use std::alloc::{AllocError, AllocGlobal, Global};
+use std::process::Abort;
+use std::test::Fail;
+use sv_base::Name;
+
+#[derive(Drop)]
+struct Outcome {
+    status: u8,
+    out: Vec<u8>,
+    err: Vec<u8>,
+}
+
+// The most bytes of a call of the outside, and the calls that fail, counted from 1.
+#[derive(Clone, Copy)]
+struct Outside<'a> {
+    most: usize,
+    reads: &'a [u64],
+    out: &'a [u64],
+    err: &'a [u64],
+}
+
+fn folder(
+    alloc: Global,
+    files: &[(&str, &str)],
+    fail: &[u64],
+    most: usize,
+) -> Result<MemFolder, AllocError>
+    requires { 0 < most }
+{
+    let mut all = Vec::new(alloc);
+    for (name, text) in files {
+        let name = Name::of(alloc, name.as_bytes())?;
+        all.push((name, Vec::from_slice(alloc, text.as_bytes())?))?;
+    }
+    Ok(MemFolder {
+        files: all,
+        fail_reads: Vec::from_slice(alloc, fail)?,
+        fail_writes: Vec::new(alloc),
+        reads: 0,
+        writes: 0,
+        most,
+        short: 0,
+    })
+}
+
+fn sink(alloc: Global, fail: &[u64], most: usize) -> Result<MemSink, AllocError>
+    requires { 0 < most }
+{
+    Ok(MemSink {
+        bytes: Vec::new(alloc),
+        fail: Vec::from_slice(alloc, fail)?,
+        calls: 0,
+        most,
+        short: 0,
+    })
+}
+
+fn run<F: Fn(u32, u32) -> u32>(
+    rt: &(impl AllocGlobal + Abort),
+    words: &[&str],
+    files: &[(&str, &str)],
+    outside: Outside<'_>,
+    order: &Order<F>,
+) -> Result<Outcome, Fail>
+    requires most { 0 < outside.most }
+    requires order { Picks (F.pre order.now.f) (F.post order.now.f) }
+{
+    let alloc = rt.alloc();
+    let mut all = Vec::new(alloc);
+    for word in words {
+        all.push(String::from_str(alloc, *word)?)?;
+    }
+    let mut folder = folder(alloc, files, outside.reads, outside.most)?;
+    let mut out = sink(alloc, outside.out, outside.most)?;
+    let mut err = sink(alloc, outside.err, outside.most)?;
+    let status = run_words(alloc, &all, &mut folder, &mut out, &mut err, order);
+    Ok(Outcome {
+        status,
+        out: out.bytes,
+        err: err.bytes,
+    })
+}
+
+// One call gives this status and these bytes.
+fn gives<F: Fn(u32, u32) -> u32>(
+    rt: &(impl AllocGlobal + Abort),
+    words: &[&str],
+    files: &[(&str, &str)],
+    outside: Outside<'_>,
+    order: &Order<F>,
+    wanted: (u8, &str, &str),
+) -> Result<(), Fail>
+    requires most { 0 < outside.most }
+    requires order { Picks (F.pre order.now.f) (F.post order.now.f) }
+{
+    let got = run(rt, words, files, outside, order)?;
+    let out = str::from_utf8(got.out.as_slice())?;
+    let err = str::from_utf8(got.err.as_slice())?;
+    assert_eq!(rt; (got.status, out, err), wanted, "{words:?} {files:?}");
+    Ok(())
+}
+
+fn no_fault(most: usize) -> Outside<'static> {
+    Outside {
+        most,
+        reads: &[],
+        out: &[],
+        err: &[],
+    }
+}
+
+// By pieces of each size and in each order of settling the outcome is the same.
+fn always_gives(
+    rt: &(impl AllocGlobal + Abort),
+    words: &[&str],
+    files: &[(&str, &str)],
+    wanted: (u8, &str, &str),
+) -> Result<(), Fail> {
+    let first = Order::new(|_, _| 0);
+    let last = Order::new(|_, n| if n == 0 { 0 } else { n - 1 });
+    let turned = Order::new(|s, n| if n == 0 { 0 } else { s % n });
+    for most in [1, 2, 7] {
+        gives(rt, words, files, no_fault(most), &first, wanted)?;
+        gives(rt, words, files, no_fault(most), &last, wanted)?;
+        gives(rt, words, files, no_fault(most), &turned, wanted)?;
+    }
+    Ok(())
+}
+
+const SIM: [&str; 4] = ["sim", "s.txt", "t", "t.sv"];
+
+const INVERTER: &str = "module t(input logic a, output logic y); assign y = ~a; endmodule";
+
+const IN_ORDER: &str = "module t(input logic a, output logic y, output logic z); \
+assign z = a; assign y = ~z; endmodule";
+
+const ADDER: &str = "module t(input logic a, input logic b, input logic c, output logic p, \
+output logic g, output logic h, output logic s, output logic d);\n\
+assign p = a ^ b;\nassign g = a & b;\nassign h = p & c;\nassign s = p ^ c;\nassign d = g | h;\n\
+endmodule\n";
+
+// Sources and stimuli, and the traces that they give.
+const TRACES: [(&str, &str, &str); 6] = [
+    (INVERTER, "", "step a:1 y:1\n0 0 1\n"),
+    (INVERTER, "d a=1", "step a:1 y:1\n0 0 1\n1 1 0\n"),
+    (
+        INVERTER,
+        "# up and down\nd a=1\n\nd\nd a=0\n",
+        "step a:1 y:1\n0 0 1\n1 1 0\n2 1 0\n3 0 1\n",
+    ),
+    (IN_ORDER, "d a=1", "step a:1 y:1 z:1\n0 0 1 0\n1 1 0 1\n"),
+    (
+        "module t(output logic y, input logic b, input logic a); assign y = a & ~b; endmodule",
+        "d a=1\nd b=1\nd a=0\n",
+        "step y:1 b:1 a:1\n0 0 0 0\n1 1 0 1\n2 0 1 1\n3 0 1 0\n",
+    ),
+    (
+        ADDER,
+        "d a=0 b=0 c=0\nd a=0 b=0 c=1\nd a=0 b=1 c=0\nd a=0 b=1 c=1\n\
+d a=1 b=0 c=0\nd a=1 b=0 c=1\nd a=1 b=1 c=0\nd a=1 b=1 c=1\n",
+        "step a:1 b:1 c:1 p:1 g:1 h:1 s:1 d:1\n0 0 0 0 0 0 0 0 0\n\
+1 0 0 0 0 0 0 0 0\n2 0 0 1 0 0 0 1 0\n3 0 1 0 1 0 0 1 0\n4 0 1 1 1 0 1 0 1\n\
+5 1 0 0 1 0 0 1 0\n6 1 0 1 1 0 1 0 1\n7 1 1 0 0 1 0 0 1\n8 1 1 1 0 1 0 1 1\n",
+    ),
+];
+
+#[test]
+fn designs_give_their_traces(rt: HostRuntime) -> Result<(), Fail> {
+    for (source, stimulus, trace) in TRACES {
+        let files = [("t.sv", source), ("s.txt", stimulus)];
+        always_gives(&rt, &SIM, &files, (0, trace, ""))?;
+    }
+    Ok(())
+}
+
+// Words that are refused, and the message.
+const MISUSES: [(&[&str], &str); 10] = [
+    (&[], "usage: too few words\n"),
+    (&["frob", "t"], "usage: frob\n"),
+    (&["sim"], "usage: too few words\n"),
+    (&["sim", "s.txt", "t"], "usage: too few words\n"),
+    (&["sim", "-x", "s.txt", "t", "t.sv"], "usage: -x\n"),
+    (&["frob", "t", "-"], "usage: -\n"),
+    (&["sim", "s.txt", "t", ""], "usage: \n"),
+    (&["sim", "s.txt", "t", "t.sv", "x"], "usage: x\n"),
+    (&["sim", "s.txt", "module", "t.sv"], "usage: module\n"),
+    (&["sim", "s.txt", "1a", "t.sv"], "usage: 1a\n"),
+];
+
+#[test]
+fn wrong_words_are_refused(rt: HostRuntime) -> Result<(), Fail> {
+    let files = [("t.sv", INVERTER), ("s.txt", "d a=1")];
+    for (words, message) in MISUSES {
+        always_gives(&rt, words, &files, (2, "", message))?;
+    }
+    Ok(())
+}
+
+#[test]
+fn absent_files_are_told(rt: HostRuntime) -> Result<(), Fail> {
+    let source = ("t.sv", INVERTER);
+    let stimulus = ("s.txt", "d a=1");
+    let absent = (3, "", "absent t.sv\n");
+    always_gives(&rt, &SIM, &[], absent)?;
+    always_gives(&rt, &SIM, &[stimulus], absent)?;
+    let begun = (5, "step a:1 y:1\n0 0 1\n", "stimulus 1: absent\n");
+    always_gives(&rt, &SIM, &[source], begun)?;
+    Ok(())
+}
+
+// Sources that are no plain design of the top `t`.
+const REFUSED: [&str; 12] = [
+    "",
+    "endmodule",
+    "module u(input logic a, output logic y); assign y = ~a; endmodule",
+    "module t(input logic a, output logic y); initial y = 0; endmodule",
+    "module t(input logic a, output logic y, output logic z); assign y = ~z; assign z = a; endmodule",
+    "module t(input logic a, output logic y); assign y = a; assign y = ~a; endmodule",
+    "module t(input logic a, output logic y); assign y = a; assign y = a; endmodule",
+    "module t(input logic a, output logic y); assign a = y; endmodule",
+    "module t(input logic a, output logic y); assign y = ~y; endmodule",
+    "module t(input logic a, input logic a, output logic y); assign y = a; endmodule",
+    "module t(input logic a, output logic y); assign y = a & b; endmodule",
+    "module t(input logic a, output logic y); assign z = a; endmodule",
+];
+
+const UNSUPPORTED: (u8, &str, &str) = (3, "", "-:0: Unsupported plain\n");
+
+#[test]
+fn sources_that_are_no_plain_design_are_refused(rt: HostRuntime) -> Result<(), Fail> {
+    for source in REFUSED {
+        let files = [("t.sv", source), ("s.txt", "d a=1")];
+        always_gives(&rt, &SIM, &files, UNSUPPORTED)?;
+    }
+    let files = [("t.sv", INVERTER), ("s.txt", "d a=1")];
+    always_gives(&rt, &["sim", "s.txt", "u", "t.sv"], &files, UNSUPPORTED)?;
+    Ok(())
+}
+
+// Stimuli of the inverter, the steps of their traces behind step 0, and the message.
+const BAD_STIMULI: [(&str, &str, &str); 9] = [
+    ("d y=1", "", "stimulus 1: y is no input\n"),
+    ("d a=2", "", "stimulus 1: 2 is no value\n"),
+    ("d a", "", "stimulus 1: a is no setting\n"),
+    ("d a=1 a=0", "", "stimulus 1: a is set twice\n"),
+    ("c a=1", "", "stimulus 1: c is no step\n"),
+    (
+        "d a=1\n# x\nd b=0",
+        "1 1 0\n",
+        "stimulus 3: b is no input\n",
+    ),
+    (
+        "d a=1\nd a=1 y=0\n",
+        "1 1 0\n",
+        "stimulus 2: y is no input\n",
+    ),
+    (
+        "\n\nd a=1\nx\nd a=0\n",
+        "1 1 0\n",
+        "stimulus 4: x is no step\n",
+    ),
+    (
+        "d a=1\nd\nda=0",
+        "1 1 0\n2 1 0\n",
+        "stimulus 3: da=0 is no step\n",
+    ),
+];
+
+#[test]
+fn bad_stimuli_end_the_trace(rt: HostRuntime) -> Result<(), Fail> {
+    for (stimulus, steps, message) in BAD_STIMULI {
+        let files = [("t.sv", INVERTER), ("s.txt", stimulus)];
+        let trace = format!(in rt.alloc(); "step a:1 y:1\n0 0 1\n{steps}")?;
+        always_gives(&rt, &SIM, &files, (5, trace.as_str(), message))?;
+    }
+    Ok(())
+}
+
+// The calls that fail among the reads, those of `out` and those of `err`, and what is given.
+const FAULTS: [(&[u64], &[u64], &[u64], (u8, &str, &str)); 7] = [
+    (&[1], &[], &[], (7, "", "read fault\n")),
+    (&[3], &[], &[], (7, "step a:1 y:1\n0 0 1\n", "read fault\n")),
+    (&[], &[1], &[], (8, "", "write fault\n")),
+    (
+        &[],
+        &[3],
+        &[],
+        (8, "step a:1 y:1\n0 0 1\n", "write fault\n"),
+    ),
+    (&[1], &[1], &[], (7, "", "read fault\n")),
+    (&[1], &[], &[1], (8, "", "")),
+    (&[], &[1], &[1], (8, "", "")),
+];
+
+#[test]
+fn faults_are_told(rt: HostRuntime) -> Result<(), Fail> {
+    let order = Order::new(|_, _| 0);
+    let files = [("t.sv", INVERTER), ("s.txt", "d a=1\nd a=0\n")];
+    for (reads, out, err, wanted) in FAULTS {
+        let outside = Outside {
+            most: 1000,
+            reads,
+            out,
+            err,
+        };
+        gives(&rt, &SIM, &files, outside, &order, wanted)?;
+    }
+    Ok(())
+}
+
+#[test]
+fn message_that_is_not_written_is_a_write_fault(rt: HostRuntime) -> Result<(), Fail> {
+    let order = Order::new(|_, _| 0);
+    let begun = "step a:1 y:1\n0 0 1\n";
+    for (words, files, fail, wanted) in [
+        (
+            ["sim", "s.txt", "t", "-"],
+            [("t.sv", INVERTER), ("s.txt", "")],
+            1,
+            (8, "", ""),
+        ),
+        (SIM, [("t.sv", ""), ("s.txt", "")], 2, (8, "", "-:0: U")),
+        (
+            SIM,
+            [("t.sv", INVERTER), ("s.txt", "d a")],
+            3,
+            (8, begun, "stimulus 1: "),
+        ),
+        (SIM, [("t.sv", INVERTER), ("s.txt", "")], 1, (0, begun, "")),
+    ] {
+        let outside = Outside {
+            most: 6,
+            reads: &[],
+            out: &[],
+            err: &[fail],
+        };
+        gives(&rt, &words, &files, outside, &order, wanted)?;
+    }
+    Ok(())
+}
+
+#[test]
+fn source_has_at_most_1048576_bytes(rt: HostRuntime) -> Result<(), Fail> {
+    let order = Order::new(|_, _| 0);
+    let trace = "step a:1 y:1\n0 0 1\n";
+    for (count, wanted) in [(1_048_576, (0, trace, "")), (1_048_577, UNSUPPORTED)] {
+        let mut bytes = Vec::from_slice(rt.alloc(), INVERTER.as_bytes())?;
+        bytes.resize(count, b' ')?;
+        let source = str::from_utf8(bytes.as_slice())?;
+        let files = [("t.sv", source), ("s.txt", "")];
+        let got = run(&rt, &SIM, &files, no_fault(5000), &order)?;
+        let out = str::from_utf8(got.out.as_slice())?;
+        let err = str::from_utf8(got.err.as_slice())?;
+        assert_eq!(rt; (got.status, out, err), wanted, "{count}");
+    }
+    Ok(())
+}
+
+// A chain of inverters from the input `n0` to the output `n1000`.
+fn chain(alloc: Global) -> Result<String, AllocError> {
+    let mut text = String::from_str(alloc, "module t(input logic n0")?;
+    for i in 1..1001u32 {
+        let port = format!(in alloc; ", output logic n{i}")?;
+        text.push_str(port.as_str())?;
+    }
+    text.push_str(");\n")?;
+    for i in 0..1000u32 {
+        let assignment = format!(in alloc; "assign n{} = ~n{i};\n", i + 1)?;
+        text.push_str(assignment.as_str())?;
+    }
+    text.push_str("endmodule\n")?;
+    Ok(text)
+}
+
+#[test]
+fn a_chain_of_1000_inverters_alternates(rt: HostRuntime) -> Result<(), Fail> {
+    let source = chain(rt.alloc())?;
+    let files = [("t.sv", source.as_str()), ("s.txt", "d n0=1\n")];
+    let order = Order::new(|_, _| 0);
+    let got = run(&rt, &SIM, &files, no_fault(1000), &order)?;
+    let mut last = Vec::from_slice(rt.alloc(), b"\n1 1")?;
+    for _ in 0..500u32 {
+        last.extend_from_slice(b" 0 1")?;
+    }
+    last.push(b'\n')?;
+    assert_eq!(rt; got.status, 0);
+    assert!(rt; got.out.ends_with(last.as_slice()));
+    assert!(rt; got.err.is_empty());
+    Ok(())
+}
