@@ -1,16 +1,16 @@
 -- Drivers that are taken in an order in which no one reads what it or a later one writes.
-use Rattle.std.proofs.Common.{◌≡◌, ◌≢◌, ℕ, ◌<◌, ◌≤◌, ◌^◌, ◌+◌, List, [], ◌∷◌, length, Bool, true, false, refl, sym, ◌∙◌, ap, subst, arith, inl, inr, Option, None, Some}
-use Rattle.std.specs.Prelude.{◌==◌, ◌&&◌, nat_lt, slice_index, slice_set, slice_get, ◌⊎◌, if◌then◌else◌}
+use Rattle.std.proofs.Common.{◌≡◌, ℕ, ◌<◌, ◌≤◌, ◌^◌, List, [], ◌∷◌, length, Bool, true, false, refl, sym, ◌∙◌, ap, subst, arith, inl, inr, None, Some}
+use Rattle.std.specs.Prelude.{◌==◌, ◌&&◌, nat_lt, slice_index, ◌⊎◌, if◌then◌else◌}
 use Rattle.std.specs.List.{AllByRecursion}
 use Rattle.std.specs.Int.{bit_at}
 use Rattle.std.proofs.lemmas.Bool.Decides.{nat_tests}
 use Rattle.std.proofs.lemmas.Nat.Bits.{same_from_bits_below}
-use Rattle.std.proofs.lemmas.List.{get_or-set_same, get_or-set_other, length-set, ext_get_or, get_or_past}
+use Rattle.std.proofs.lemmas.List.{get_or-set_same, get_or-set_other, length-set}
 use Rattle.net_ir.specs.declared.design.Target.TheVariants.{Of}
 use Rattle.net_ir.specs.declared.design.Driver.{Driver}
 use Rattle.net_ir.specs.declared.design.Driver.TheVariants.{Assign}
 use Rattle.net_ir.specs.Value.{val, reads_of}
-use Rattle.net_ir.specs.Drive.{gives, writes, driver_reads}
+use Rattle.net_ir.specs.Drive.{gives, writes}
 use Rattle.net_ir.specs.Solution.{IsDriven}
 use Rattle.net_ir.specs.Plain.{IsWhole, NoneWrites, IsBefore, AreOrdered}
 use Rattle.net_ir.specs.Pass.{effect, run}

@@ -1,6 +1,6 @@
 -- What the evaluator's pass leaves.
-use Rattle.std.proofs.Common.{◌≡◌, ℕ, zero, suc, ◌<◌, ◌≤◌, ◌+◌, List, [], ◌∷◌, ◌++◌, length, map, take, drop, get_or, refl, sym, ◌∙◌, ap, subst, arith, Option, None, Some}
-use Rattle.std.specs.Prelude.{slice_index, slice_set, slice_get}
+use Rattle.std.proofs.Common.{◌≡◌, ℕ, zero, suc, ◌<◌, ◌≤◌, ◌+◌, List, [], ◌∷◌, ◌++◌, length, map, take, drop, get_or, refl, sym, ◌∙◌, ap, subst, arith, None, Some}
+use Rattle.std.specs.Prelude.{slice_index, slice_set}
 use Rattle.std.specs.List.{AllByRecursion}
 use Rattle.std.proofs.lemmas.List.{length-map, take_more, take_more_set}
 use Rattle.std.proofs.Common.{take_all, add-one, drop-cons}
@@ -14,7 +14,7 @@ use Rattle.net_ir.specs.declared.design.Target.{Target}
 use Rattle.net_ir.specs.declared.design.Target.TheVariants.{Of}
 use Rattle.net_ir.specs.declared.design.Driver.{Driver}
 use Rattle.net_ir.specs.declared.design.Driver.TheVariants.{Assign}
-use Rattle.net_ir.specs.Value.{words, widths, widths_of, val, size}
+use Rattle.net_ir.specs.Value.{words, widths, widths_of, size}
 use Rattle.net_ir.specs.Drive.{target_var}
 use Rattle.net_ir.specs.Plain.{IsWhole, IsLawful}
 use Rattle.net_ir.specs.Pass.{IsStorable, store, effect, run, source_at, source_of, sources_of}

@@ -1,10 +1,10 @@
 -- What a pass over a plain design's drivers leaves solves it.
-use Rattle.std.proofs.Common.{◌≡◌, ℕ, zero, suc, ◌<◌, ◌≤◌, ◌^◌, ◌+◌, List, [], ◌∷◌, length, map, get_or, refl, sym, ◌∙◌, ap, subst, arith, Option, None, Some, Bool, true, false, inl, inr}
-use Rattle.std.specs.Prelude.{slice_index, slice_get, IsTrue, ◌⊎◌}
+use Rattle.std.proofs.Common.{◌≡◌, ℕ, zero, suc, ◌<◌, ◌^◌, List, [], ◌∷◌, length, get_or, refl, sym, ◌∙◌, ap, subst, arith, Some, Bool, true, false}
+use Rattle.std.specs.Prelude.{slice_index, slice_get}
 use Rattle.std.specs.List.{AllByRecursion}
 use Rattle.std.specs.Int.{bit_at}
 use Rattle.std.proofs.lemmas.List.{length-map, get_or-map}
-use Rattle.std.proofs.lemmas.Option.{slice_get-get_or, slice_get_within, get_or_from_slice_get}
+use Rattle.std.proofs.lemmas.Option.{slice_get_within, get_or_from_slice_get}
 use Rattle.bit_ops.specs.declared.value.Bits.{Bits}
 use Rattle.net_ir.specs.declared.design.Role.{Role}
 use Rattle.net_ir.specs.declared.design.Role.TheVariants.{Input, Output}
@@ -12,12 +12,12 @@ use Rattle.net_ir.specs.declared.design.Var.{Var}
 use Rattle.net_ir.specs.declared.design.Driver.{Driver}
 use Rattle.net_ir.specs.declared.design.Spec.{Spec}
 use Rattle.net_ir.specs.Value.{words, widths, widths_of}
-use Rattle.net_ir.specs.Drive.{gives, writes}
+use Rattle.net_ir.specs.Drive.{writes}
 use Rattle.net_ir.specs.Run.{at_levels}
 use Rattle.net_ir.specs.Solution.{Solves, IsValuation, IsDriven}
 use Rattle.net_ir.specs.Plain.{IsPlain, IsInput, SparesInputs, NoneWrites}
 use Rattle.net_ir.specs.Pass.{run, source_at, source_of, sources_of}
-use Rattle.net_ir.proofs.Order.{ArePositive, run_leaves, drives_all, none_writes}
+use Rattle.net_ir.proofs.Order.{run_leaves, drives_all, none_writes}
 use Rattle.net_ir.proofs.Unique.{length-widths, width_is, positive_widths}
 use Rattle.net_ir.proofs.Passes.{length_from_widths, source_index, sources_widths}
 

@@ -6,7 +6,7 @@ use Rattle.bit_ops.specs.Rows.{value_of}
 use Rattle.net_ir.specs.declared.term.Term.{Term}
 use Rattle.net_ir.specs.declared.term.Term.TheOpen.{Term-F, Const, Read, Apply}
 use Rattle.net_ir.specs.declared.term.Term.TheViews.{out-Term, roll-Term}
-use Rattle.net_ir.specs.declared.term.Term.TheFolds.{map-Term, fold-Term, fold-roll-Term, fold_out-Term, ind-Term}
+use Rattle.net_ir.specs.declared.term.Term.TheFolds.{map-Term, fold-roll-Term, fold_out-Term, ind-Term}
 use Rattle.net_ir.specs.Value.{operand_of_layer, operand_of, size, reads_of_layer, reads_of}
 
 -- two valuations have the same word at each of these variables

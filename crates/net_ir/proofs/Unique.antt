@@ -1,8 +1,7 @@
 -- A plain design has at most one solution in a state, and so one trace.
-use Rattle.std.proofs.Common.{◌≡◌, ℕ, zero, suc, ◌<◌, ◌≤◌, ◌^◌, ◌+◌, get_or, List, [], ◌∷◌, ◌++◌, length, map, refl, sym, ◌∙◌, ap, subst, arith, Option, None, Some, inl, inr}
+use Rattle.std.proofs.Common.{◌≡◌, ℕ, zero, suc, ◌<◌, ◌≤◌, ◌^◌, ◌+◌, get_or, List, [], ◌∷◌, ◌++◌, length, refl, sym, ◌∙◌, ap, subst, arith, None, Some, inl, inr}
 use Rattle.std.specs.Prelude.{slice_index, slice_get, ◌⊎◌}
 use Rattle.std.specs.List.{AllByRecursion}
-use Rattle.std.specs.Int.{bit_at}
 use Rattle.std.proofs.lemmas.Nat.Bits.{same_from_bits_below}
 use Rattle.std.proofs.lemmas.List.{ext_get_or, get_or_past, get_or-map, length-map}
 use Rattle.std.proofs.lemmas.Option.{slice_get_cases, slice_get_within, get_or_from_slice_get}
@@ -12,7 +11,7 @@ use Rattle.net_ir.specs.declared.design.Var.{Var}
 use Rattle.net_ir.specs.declared.design.Spec.{Spec}
 use Rattle.net_ir.specs.Value.{widths_of}
 use Rattle.net_ir.specs.Solution.{Solves, IsValuation}
-use Rattle.net_ir.specs.Plain.{IsPlain, HaveInitialValues, NoneWrites}
+use Rattle.net_ir.specs.Plain.{IsPlain, HaveInitialValues}
 use Rattle.net_ir.specs.Run.{State, at_levels, Step, Values, start, Follows}
 use Rattle.net_ir.specs.Text.{header, line}
 use Rattle.net_ir.specs.Trace.{Shows, GoesOn, IsTrace}

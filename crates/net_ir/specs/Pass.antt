@@ -1,5 +1,5 @@
 -- One pass over whole assignments, each taken once.
-use Rattle.std.specs.Prelude.{◌≡◌, ℕ, ◌<◌, List, [], ◌∷◌, length, Option, None, Some, slice_index, slice_set}
+use Rattle.std.specs.Prelude.{◌≡◌, ℕ, ◌<◌, List, [], ◌∷◌, length, None, Some, slice_index, slice_set}
 use Rattle.net_ir.specs.declared.design.Role.TheVariants.{Input, Output}
 use Rattle.net_ir.specs.declared.design.Var.{Var}
 use Rattle.net_ir.specs.declared.design.Target.{Target}

@@ -1,5 +1,5 @@
 -- Designs whose drivers can be taken in the order of the text.
-use Rattle.std.specs.Prelude.{◌≡◌, ℕ, ◌<◌, ◌≤◌, ◌^◌, List, [], ◌∷◌, length, Option, None, Some, false, IsTrue, slice_get, slice_index, map, ⊤, ◌⊎◌}
+use Rattle.std.specs.Prelude.{◌≡◌, ℕ, ◌<◌, List, [], ◌∷◌, length, None, Some, false, IsTrue, slice_get, slice_index, map, ⊤}
 use Rattle.std.specs.List.{AllByRecursion}
 use Rattle.bit_ops.specs.Width.{IsWidth, WidthsFit}
 use Rattle.net_ir.specs.declared.term.Term.{Term}

@@ -2,7 +2,6 @@
 use Rattle.std.specs.Prelude.{ℕ, zero, suc, ◌+◌, ◌/◌, ◌%◌, List, [], ◌∷◌, ◌++◌, codes, nat_lt, if◌then◌else◌}
 use Rattle.std.specs.List.{flat_map, zip}
 use Rattle.std.specs.Fmt.{decimal}
-use Rattle.net_ir.specs.declared.design.Role.TheVariants.{Input, Output}
 use Rattle.net_ir.specs.declared.design.Var.{Var}
 
 -- a hexadecimal digit in lower case

@@ -15,14 +15,12 @@ pub fn one_solution()
 /// The line of a step is determined by its number and its state.
 pub fn one_line()
     ensures { (spec : Spec) (number : ℕ) (state : State) (a b : List ℕ) → IsPlain spec → Shows spec number state a → Shows spec number state b → a ≡ b }
-{
-}
+{}
 
 /// A step leads to one state.
 pub fn one_next()
     ensures { (spec : Spec) (state : State) (step : Step) (a b : State) → Follows spec state step a → Follows spec state step b → a ≡ b }
-{
-}
+{}
 
 /// A plain design has at most one trace over given steps.
 pub fn one_trace()

@@ -1,14 +1,13 @@
-use Rattle.std.proofs.Common.{◌≡◌, ℕ, ◌<◌, ◌≤◌, List, length, map, take, get_or, ◌+◌, [], rules, arith, subst, sym, ap, ◌∙◌, refl}
+use Rattle.std.proofs.Common.{◌≡◌, ◌<◌, ◌≤◌, length, map, take, get_or, ◌+◌, [], rules, arith, subst, sym, ap, ◌∙◌, refl}
 use Rattle.std.specs.Prelude.{slice_set}
 use Rattle.std.proofs.lemmas.List.{length-map, length-set}
-use Rattle.bit_ops.specs.Width.{IsWidth, WidthsFit}
-use Rattle.net_ir.specs.declared.term.Term.{Term, Read, Apply}
+use Rattle.net_ir.specs.declared.term.Term.{Apply}
 use Rattle.net_ir.specs.declared.term.Term.TheFolds.{the_lemmas}
 use borrow.Author.Rules.{get_or_read}
 use Rattle.net_ir.specs.Value.{words, widths, operands, operand_of, size, val}
 use Rattle.net_ir.specs.Plain.{IsLawful}
 use Rattle.net_ir.proofs.Terms.{width_is_size}
-use Rattle.net_ir.proofs.Layers.{lawful_read, lawful_apply, lawful_arg, few_operands, operand_read, operand_apply, read_width, read_word, sizes_of_values, more_operands, all_fit, all_value, read_there}
+use Rattle.net_ir.proofs.Layers.{lawful_apply, lawful_arg, few_operands, operand_read, read_width, read_word, more_operands, all_fit, all_value, read_there}
 use Rattle.net_ir.proofs.evaluator.+evaluate.Goals as goal
 
 pub bounds-values-var : goal.bounds-values-var

@@ -1,8 +1,7 @@
-use Rattle.std.proofs.Common.{◌≡◌, refl, sym, ◌∙◌, ap, subst}
-use Rattle.net_ir.specs.declared.design.Driver.{Driver}
+use Rattle.std.proofs.Common.{◌≡◌, sym, ◌∙◌, ap, subst}
 use Rattle.net_ir.specs.Value.{words, widths}
 use Rattle.net_ir.specs.Plain.{IsWhole}
-use Rattle.net_ir.specs.Pass.{effect, run}
+use Rattle.net_ir.specs.Pass.{effect}
 use Rattle.net_ir.proofs.Passes.{all_at, run_more}
 use Rattle.net_ir.proofs.evaluator.drive_all.Goals as goal
 

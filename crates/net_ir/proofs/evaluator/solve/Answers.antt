@@ -1,4 +1,4 @@
-use Rattle.std.proofs.Common.{◌≡◌, sym, ◌∙◌, ap}
+use Rattle.std.proofs.Common.{◌≡◌, ◌∙◌, ap}
 use Rattle.net_ir.specs.Value.{words, widths, widths_of}
 use Rattle.net_ir.specs.Pass.{run, sources_of}
 use Rattle.net_ir.proofs.Solved.{run_solves}
