@@ -1,6 +1,6 @@
 //! Rows of the program's outcomes: words and files, and the bytes and the status that they give.
 
-ghost use Rattle.std.specs.Prelude.{◌<◌};
+ghost use Rattle.std.specs.Prelude.{◌≡◌, ◌<◌};
 ghost use Rattle.lib_create.specs.Order.{Picks};
 
 use crate::order::Order;
@@ -108,7 +108,9 @@ fn gives<F: Fn(u32, u32) -> u32>(
     Ok(())
 }
 
-fn no_fault(most: usize) -> Outside<'static> {
+fn no_fault(most: usize) -> Outside<'static>
+    ensures { result.most ≡ most }
+{
     Outside {
         most,
         reads: &[],
@@ -117,22 +119,34 @@ fn no_fault(most: usize) -> Outside<'static> {
     }
 }
 
-// By pieces of each size and in each order of settling the outcome is the same.
+// In each order of settling the outcome is the same.
+fn gives_in_each_order(
+    rt: &(impl AllocGlobal + Abort),
+    words: &[&str],
+    files: &[(&str, &str)],
+    most: usize,
+    wanted: (u8, &str, &str),
+) -> Result<(), Fail>
+    requires { 0 < most }
+{
+    let first = Order::new(|_, _| 0);
+    let last = Order::new(|_, n| if n == 0 { 0 } else { n - 1 });
+    let turned = Order::new(|s, n| if n == 0 { 0 } else { s % n });
+    gives(rt, words, files, no_fault(most), &first, wanted)?;
+    gives(rt, words, files, no_fault(most), &last, wanted)?;
+    gives(rt, words, files, no_fault(most), &turned, wanted)
+}
+
+// By pieces of each size the outcome is the same.
 fn always_gives(
     rt: &(impl AllocGlobal + Abort),
     words: &[&str],
     files: &[(&str, &str)],
     wanted: (u8, &str, &str),
 ) -> Result<(), Fail> {
-    let first = Order::new(|_, _| 0);
-    let last = Order::new(|_, n| if n == 0 { 0 } else { n - 1 });
-    let turned = Order::new(|s, n| if n == 0 { 0 } else { s % n });
-    for most in [1, 2, 7] {
-        gives(rt, words, files, no_fault(most), &first, wanted)?;
-        gives(rt, words, files, no_fault(most), &last, wanted)?;
-        gives(rt, words, files, no_fault(most), &turned, wanted)?;
-    }
-    Ok(())
+    gives_in_each_order(rt, words, files, 1, wanted)?;
+    gives_in_each_order(rt, words, files, 2, wanted)?;
+    gives_in_each_order(rt, words, files, 7, wanted)
 }
 
 const SIM: [&str; 4] = ["sim", "s.txt", "t", "t.sv"];
@@ -316,32 +330,32 @@ fn faults_are_told(rt: HostRuntime) -> Result<(), Fail> {
     Ok(())
 }
 
+// The words and files, the call of `err` that fails, and what is given.
+const UNWRITTEN: [(&str, &str, &str, &[u64], (u8, &str, &str)); 4] = [
+    ("-", INVERTER, "", &[1], (8, "", "")),
+    ("t.sv", "", "", &[2], (8, "", "-:0: U")),
+    (
+        "t.sv",
+        INVERTER,
+        "d a",
+        &[3],
+        (8, "step a:1 y:1\n0 0 1\n", "stimulus 1: "),
+    ),
+    ("t.sv", INVERTER, "", &[1], (0, "step a:1 y:1\n0 0 1\n", "")),
+];
+
 #[test]
 fn message_that_is_not_written_is_a_write_fault(rt: HostRuntime) -> Result<(), Fail> {
     let order = Order::new(|_, _| 0);
-    let begun = "step a:1 y:1\n0 0 1\n";
-    for (words, files, fail, wanted) in [
-        (
-            ["sim", "s.txt", "t", "-"],
-            [("t.sv", INVERTER), ("s.txt", "")],
-            1,
-            (8, "", ""),
-        ),
-        (SIM, [("t.sv", ""), ("s.txt", "")], 2, (8, "", "-:0: U")),
-        (
-            SIM,
-            [("t.sv", INVERTER), ("s.txt", "d a")],
-            3,
-            (8, begun, "stimulus 1: "),
-        ),
-        (SIM, [("t.sv", INVERTER), ("s.txt", "")], 1, (0, begun, "")),
-    ] {
+    for (name, source, stimulus, err, wanted) in UNWRITTEN {
         let outside = Outside {
             most: 6,
             reads: &[],
             out: &[],
-            err: &[fail],
+            err,
         };
+        let words = ["sim", "s.txt", "t", name];
+        let files = [("t.sv", source), ("s.txt", stimulus)];
         gives(&rt, &words, &files, outside, &order, wanted)?;
     }
     Ok(())
