@@ -1,3 +1,4 @@
 pub mod Width
 pub mod Meaning
 pub mod Rows
+pub mod Lists

@@ -5,7 +5,8 @@ use Rattle.std.specs.List.{AllByRecursion}
 use Rattle.std.proofs.lemmas.List.{drop_all, append-nil, length-map, map-append}
 use Rattle.bit_ops.specs.declared.value.Bits.{Bits}
 use Rattle.net_ir.specs.declared.design.Var.{Var}
-use Rattle.net_ir.specs.Value.{words, widths, widths_of}
+use Rattle.bit_ops.specs.Lists.{words, widths}
+use Rattle.net_ir.specs.Value.{widths_of}
 use Rattle.net_ir.specs.Run.{set_all}
 use Rattle.lib_create.specs.StimulusReading.{IsSettable, settings_seen}
 use Rattle.lib_create.specs.declared.setting.Setting.{Setting}

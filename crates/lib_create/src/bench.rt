@@ -2,7 +2,8 @@
 
 ghost use Rattle.std.specs.Prelude.{◌≡◌, IfOk, map, replicate};
 ghost use Rattle.std.specs.List.{AllByRecursion};
-ghost use Rattle.net_ir.specs.Value.{words, widths, widths_of};
+ghost use Rattle.bit_ops.specs.Lists.{words, widths};
+ghost use Rattle.net_ir.specs.Value.{widths_of};
 ghost use Rattle.net_ir.specs.Plain.{HaveInitialValues};
 ghost use Rattle.net_ir.specs.Run.{set_all};
 ghost use Rattle.lib_create.specs.StimulusReading.{settings_seen, IsSettable};

@@ -3,7 +3,8 @@
 ghost use Rattle.std.specs.Prelude.{◌≡◌, ◌<◌, ◌≤◌, ◌^◌, List, ℕ, Some, IfOk, IfErr, OnErr, MatchResult};
 ghost use Rattle.std.specs.Option.{option_map};
 ghost use Rattle.io_edge.specs.Told.{Added, AddedFront};
-ghost use Rattle.net_ir.specs.Value.{words, widths, widths_of};
+ghost use Rattle.bit_ops.specs.Lists.{words, widths};
+ghost use Rattle.net_ir.specs.Value.{widths_of};
 ghost use Rattle.net_ir.specs.Plain.{IsPlain};
 ghost use Rattle.net_ir.specs.Run.{at_levels};
 ghost use Rattle.net_ir.specs.Trace.{Shows};

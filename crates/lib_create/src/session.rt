@@ -3,7 +3,8 @@
 ghost use Rattle.std.specs.Prelude.{◌≡◌, ◌≤◌, ℕ, List, [], map, Some, Ok, Err, IfOk, IfErr, IfSome, OnErr};
 ghost use Rattle.std.specs.FinMap.{get};
 ghost use Rattle.io_edge.specs.Told.{Added, AddedFront};
-ghost use Rattle.net_ir.specs.Value.{words, widths, widths_of};
+ghost use Rattle.bit_ops.specs.Lists.{words, widths};
+ghost use Rattle.net_ir.specs.Value.{widths_of};
 ghost use Rattle.net_ir.specs.Plain.{IsPlain};
 ghost use Rattle.lib_create.specs.Verdicts.{verdict_seen};
 ghost use Rattle.lib_create.specs.Playing.{IsWriteCause, IsPlayCause, Began, TraceFront, Followed, FollowedFront};

@@ -13,7 +13,8 @@ use Rattle.net_ir.specs.declared.term.Term.TheOpen as layer
 use Rattle.net_ir.specs.declared.term.Term.TheOpen.{Term-F}
 use Rattle.net_ir.specs.declared.term.Term.TheVariants.{outs-Read, outs-Apply}
 use Rattle.net_ir.specs.declared.term.Term.TheFolds.{map-Term, every_here-Term, every_held-Term, fold_out-Term}
-use Rattle.net_ir.specs.Value.{words, widths, operands, operand_of_layer, operand_of, size}
+use Rattle.bit_ops.specs.Lists.{words, widths}
+use Rattle.net_ir.specs.Value.{operands, operand_of_layer, operand_of, size}
 use Rattle.net_ir.specs.Plain.{IsLawfulLayer, IsLawful}
 use Rattle.net_ir.proofs.Terms.{width_is_size}
 

@@ -14,7 +14,8 @@ use Rattle.net_ir.specs.declared.design.Target.{Target}
 use Rattle.net_ir.specs.declared.design.Target.TheVariants.{Of}
 use Rattle.net_ir.specs.declared.design.Driver.{Driver}
 use Rattle.net_ir.specs.declared.design.Driver.TheVariants.{Assign}
-use Rattle.net_ir.specs.Value.{words, widths, widths_of, size}
+use Rattle.bit_ops.specs.Lists.{words, widths}
+use Rattle.net_ir.specs.Value.{widths_of, size}
 use Rattle.net_ir.specs.Drive.{target_var}
 use Rattle.net_ir.specs.Plain.{IsWhole, IsLawful}
 use Rattle.net_ir.specs.Pass.{IsStorable, store, effect, run, source_at, source_of, sources_of}

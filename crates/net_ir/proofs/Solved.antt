@@ -11,7 +11,8 @@ use Rattle.net_ir.specs.declared.design.Role.TheVariants.{Input, Output}
 use Rattle.net_ir.specs.declared.design.Var.{Var}
 use Rattle.net_ir.specs.declared.design.Driver.{Driver}
 use Rattle.net_ir.specs.declared.design.Spec.{Spec}
-use Rattle.net_ir.specs.Value.{words, widths, widths_of}
+use Rattle.bit_ops.specs.Lists.{words, widths}
+use Rattle.net_ir.specs.Value.{widths_of}
 use Rattle.net_ir.specs.Drive.{writes}
 use Rattle.net_ir.specs.Run.{at_levels}
 use Rattle.net_ir.specs.Solution.{Solves, IsValuation, IsDriven}

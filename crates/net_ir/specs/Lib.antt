@@ -1,9 +1,12 @@
 pub mod Value
+pub mod Statement
 pub mod Drive
+pub mod Face
 pub mod Run
 pub mod Solution
+pub mod Stepping
+pub mod Idle
 pub mod Plain
 pub mod Pass
 pub mod Turns
-pub mod Text
 pub mod Trace

@@ -1,28 +1,44 @@
 -- One pass over whole assignments, each taken once.
-use Rattle.std.specs.Prelude.{◌≡◌, ℕ, ◌<◌, List, [], ◌∷◌, length, None, Some, slice_index, slice_set}
-use Rattle.net_ir.specs.declared.design.Role.TheVariants.{Input, Output}
+use Rattle.std.specs.Prelude.{◌≡◌, ℕ, ◌<◌, List, [], ◌∷◌, length, None, Some, slice_index, slice_get, slice_set}
+use Rattle.std.specs.Int.{bit_at}
+use Rattle.net_ir.specs.declared.design.Role.TheVariants.{Input, Output, Inner}
 use Rattle.net_ir.specs.declared.design.Var.{Var}
 use Rattle.net_ir.specs.declared.design.Target.{Target}
 use Rattle.net_ir.specs.declared.design.Target.TheVariants.{Of}
 use Rattle.net_ir.specs.declared.design.Driver.{Driver}
-use Rattle.net_ir.specs.declared.design.Driver.TheVariants.{Assign}
+use Rattle.net_ir.specs.declared.design.Driver.TheVariants.{Assign, Clocked}
 use Rattle.bit_ops.specs.declared.value.Bits.{Bits}
 use Rattle.net_ir.specs.declared.design.Role.{Role}
-use Rattle.net_ir.specs.Value.{val}
+use Rattle.bit_ops.specs.Lists.{words}
+use Rattle.net_ir.specs.declared.design.Spec.{Spec}
+use Rattle.net_ir.specs.Value.{val, widths_of}
+use Rattle.net_ir.specs.Statement.{Write}
+use Rattle.net_ir.specs.Drive.{NoneHolds}
+use Rattle.net_ir.specs.Run.{State}
 
--- what a variable of this role has that no driver writes, of the value that is set and the initial one
+-- what a variable of this role has before any driver's turn, of the level that is set and the word that a register holds
 abbrev pub source_at : Role → Bits → Bits → Bits
-source_at Input input init = input
-source_at Output input init = init
+source_at Input input held = input
+source_at Output input held = held
+source_at Inner input held = held
 
-abbrev pub source_of : Var → Bits → Bits
-source_of v input = source_at v.role input v.init
+abbrev pub source_of : Var → Bits → Bits → Bits
+source_of v input held = source_at v.role input held
 
 -- the same of each variable
-abbrev pub sources_of : List Var → List Bits → List Bits
-sources_of [] inputs = []
-sources_of (v ∷ vars) [] = []
-sources_of (v ∷ vars) (input ∷ inputs) = source_of v input ∷ sources_of vars inputs
+abbrev pub sources_of : List Var → List Bits → List Bits → List Bits
+sources_of [] inputs held = []
+sources_of (v ∷ vars) [] held = []
+sources_of (v ∷ vars) (input ∷ inputs) [] = []
+sources_of (v ∷ vars) (input ∷ inputs) (h ∷ held) = source_of v input h ∷ sources_of vars inputs held
+
+-- each bit that no register has is as at first, so that what is held of it is its initial value
+abbrev pub KeepsInitial : Spec → List ℕ → Type 0
+KeepsInitial spec held = (x k : ℕ) (v : Var) → slice_get spec.vars x ≡ Some v → k < v.width → NoneHolds (widths_of spec.vars) spec.drivers x k → bit_at (slice_index held x) k ≡ bit_at v.init.word k
+
+-- the state with these levels of inputs and these words of registers
+abbrev pub state_of : List Bits → List Bits → State
+state_of inputs registers = record { inputs = words inputs; registers = words registers }
 
 -- a value of this width may be stored in the whole of the target
 abbrev pub IsStorable : List ℕ → Target → ℕ → Type 0
@@ -37,8 +53,14 @@ store (Of None name place) word u = u
 -- the valuation after a driver's turn
 abbrev pub effect : List ℕ → Driver → List ℕ → List ℕ
 effect ws (Assign target value at) u = store target (val ws u value) u
+effect ws (Clocked triggers body at) u = u
 
 -- the valuation after each of the drivers in turn
 abbrev pub run : List ℕ → List Driver → List ℕ → List ℕ
 run ws [] u = u
 run ws (d ∷ drivers) u = run ws drivers (effect ws d u)
+
+-- the words after writes, each stored in the whole of its variable, the first of them first
+abbrev pub store_all : List Write → List ℕ → List ℕ
+store_all [] u = u
+store_all (w ∷ writes) u = store_all writes (slice_set u w.var w.word)

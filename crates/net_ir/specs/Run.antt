@@ -1,33 +1,41 @@
--- States and steps of a design (IEEE 1800-2017, 4.4 and 4.5, for one change of the outside at a time).
-use Rattle.std.specs.Prelude.{◌≡◌, ℕ, List, [], ◌∷◌, map, slice_set}
+-- States of a design, and edges of clocks (IEEE 1800-2017, 4.4, 4.5 and 9.4.2, for one change of the outside at a time).
+use Rattle.std.specs.Prelude.{ℕ, Bool, true, false, ◌==◌, ◌&&◌, List, [], map, Option, None, Some, slice_index, if◌then◌else◌}
+use Rattle.std.specs.List.{flat_map, list_any}
+use Rattle.net_ir.specs.declared.design.Trigger.{Trigger}
+use Rattle.net_ir.specs.declared.design.Driver.{Driver}
+use Rattle.net_ir.specs.declared.design.Driver.TheVariants.{Assign, Clocked}
 use Rattle.net_ir.specs.declared.design.Spec.{Spec}
+use Rattle.net_ir.specs.Value.{widths_of}
+use Rattle.net_ir.specs.Statement.{Write, writes_of}
 
--- what lasts from step to step: the levels of the inputs, a word for each variable of which those of inputs count
+-- what lasts from step to step: the levels of the inputs and the words of the registers, each a word for each variable, of
+-- which those of inputs and those of register bits count
 pub record State : Type 0 where
   pub inputs : List ℕ
+  pub registers : List ℕ
 
--- the state with these levels
-abbrev pub at_levels : List ℕ → State
-at_levels levels = record { inputs = levels }
-
--- a variable and the word that it is set to
-pub record Setting : Type 0 where
-  pub var : ℕ
-  pub word : ℕ
-
--- what the outside does in one step: it sets some data inputs
-pub data Step : Type 0 where
-  Values : (settings : List Setting) → Step
-
--- the state before any step: every input is 0
+-- the state before any step: every input is 0, and every register has its initial value
 abbrev pub start : Spec → State
-start spec = at_levels (map (λ _. 0) spec.vars)
+start spec = record { inputs = map (λ _. 0) spec.vars; registers = map (λ v. v.init.word) spec.vars }
 
--- levels after settings, the first of them first
-abbrev pub set_all : List Setting → List ℕ → List ℕ
-set_all [] levels = levels
-set_all (s ∷ settings) levels = set_all settings (slice_set levels s.var s.word)
+-- whether a change of level is an edge: from 0 to 1, or from 1 to 0 where a falling one is meant
+abbrev pub is_edge : Bool → ℕ → ℕ → Bool
+is_edge false before after = before == 0 && after == 1
+is_edge true before after = before == 1 && after == 0
 
--- a step leads from old to new: a data step sets the named inputs and changes nothing else
-abbrev pub Follows : Spec → State → Step → State → Type 0
-Follows spec old (Values settings) new = new.inputs ≡ set_all settings old.inputs
+abbrev pub edge_at : Option ℕ → Bool → List ℕ → List ℕ → Bool
+edge_at None falling before after = false
+edge_at (Some clock) falling before after = is_edge falling (slice_index before clock) (slice_index after clock)
+
+-- whether the edge of an event control occurs where the inputs change from these levels to those
+abbrev pub occurs : List ℕ → List ℕ → Trigger → Bool
+occurs before after t = edge_at t.var t.falling before after
+
+-- the writes of a driver at a change of the inputs, with every read from the valuation u
+abbrev pub sampled : List ℕ → List ℕ → List ℕ → List ℕ → Driver → List Write
+sampled ws u before after (Assign target value place) = []
+sampled ws u before after (Clocked triggers body place) = if list_any (occurs before after) triggers then writes_of ws u body else []
+
+-- the writes of all drivers
+abbrev pub all_sampled : Spec → List ℕ → List ℕ → List ℕ → List Write
+all_sampled spec u before after = flat_map (sampled (widths_of spec.vars) u before after) spec.drivers

@@ -2,10 +2,10 @@
 use Rattle.std.specs.Prelude.{ℕ, Bool, true, false, not, ◌&&◌, List, Option, None, Some, slice_get, slice_set, slice_index_or}
 use Rattle.std.specs.List.{list_all}
 use Rattle.net_ir.specs.declared.design.Role.{Role}
-use Rattle.net_ir.specs.declared.design.Role.TheVariants.{Input, Output}
+use Rattle.net_ir.specs.declared.design.Role.TheVariants.{Input, Output, Inner}
 use Rattle.net_ir.specs.declared.design.Var.{Var}
 use Rattle.net_ir.specs.declared.design.Driver.{Driver}
-use Rattle.net_ir.specs.declared.design.Driver.TheVariants.{Assign}
+use Rattle.net_ir.specs.declared.design.Driver.TheVariants.{Assign, Clocked}
 use Rattle.net_ir.specs.Value.{reads_of}
 use Rattle.net_ir.specs.Drive.{target_var}
 
@@ -13,6 +13,7 @@ use Rattle.net_ir.specs.Drive.{target_var}
 abbrev pub is_input : Role → Bool
 is_input Input = true
 is_input Output = false
+is_input Inner = false
 
 abbrev pub input_if : Option Var → Bool
 input_if None = false
@@ -29,6 +30,7 @@ mark_at (Some x) marks = slice_set marks x true
 -- the marks with that of the driver's target
 abbrev pub mark_target : Driver → List Bool → List Bool
 mark_target (Assign target value at) marks = mark_at (target_var target) marks
+mark_target (Clocked triggers body at) marks = marks
 
 -- whether a variable is no input and has no mark
 abbrev pub is_free : List Var → List Bool → ℕ → Bool
@@ -45,3 +47,4 @@ takes_turn_at vars marks reads (Some x) = is_free vars marks x && are_clear (sli
 -- whether a driver may stand before those that made the marks
 abbrev pub takes_turn : List Var → Driver → List Bool → Bool
 takes_turn vars (Assign target value at) marks = takes_turn_at vars marks (reads_of value) (target_var target)
+takes_turn vars (Clocked triggers body at) marks = false

@@ -8,13 +8,7 @@ use Rattle.net_ir.specs.declared.term.Term.TheOpen.{Term-F, Const, Read, Apply}
 use Rattle.net_ir.specs.declared.term.Term.TheFolds.{fold-Term}
 use Rattle.net_ir.specs.declared.design.Var.{Var}
 
--- the words of values; a valuation is such a list, with a word for each variable by its number
-abbrev pub words : List Bits → List ℕ
-words values = map (λ b. b.word) values
-
--- the widths of values
-abbrev pub widths : List Bits → List ℕ
-widths values = map (λ b. b.width) values
+-- A valuation is a list with a word for each variable, by its number.
 
 -- the widths and the words of values, as an operation takes them
 abbrev pub operands : List Bits → List (ℕ × ℕ)

@@ -1,12 +1,14 @@
+use crate::statement::Stmt;
 use crate::term::Term;
 use bit_ops::Bits;
 use sv_base::{Name, Place, Sequence};
 
-/// What a variable is to the outside.
+/// What a variable is to the outside: a port, or one that only the module itself sees.
 #[derive(Clone, Copy, Debug, PartialEq, Eq)]
 pub enum Role {
     Input,
     Output,
+    Inner,
 }
 
 /// A net or a variable: its width in bits and its lowest position, whether its declaration has a range, says
@@ -48,13 +50,28 @@ impl Target {
     }
 }
 
-/// What gives nets their values.
+/// An event control (IEEE 1800-2017, 9.4.2): a rising edge of the variable that the name means, or a falling one.
+#[derive(Debug, Drop)]
+pub struct Trigger {
+    pub name: Name,
+    pub var: Option<u32>,
+    pub falling: bool,
+    pub place: Place,
+}
+
+/// What gives nets and variables their values.
 #[derive(Drop)]
 pub enum Driver {
     /// A continuous assignment (IEEE 1800-2017, 10.3).
     Assign {
         target: Target,
         value: Term,
+        place: Place,
+    },
+    /// A clocked process (9.2.2.4): at an edge of a trigger it gives its registers their next values.
+    Clocked {
+        triggers: Sequence<Trigger>,
+        body: Stmt,
         place: Place,
     },
 }

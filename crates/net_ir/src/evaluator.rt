@@ -1,13 +1,13 @@
-//! A plain evaluator: it takes a design's drivers once, in the order of the text.
+//! A plain evaluator: it takes a design's continuous assignments once, in the order of the text.
 
 ghost use Rattle.std.specs.Prelude.{◌≡◌, [], ◌∷◌, length};
 ghost use Rattle.bit_ops.specs.Width.{IsWidth, WidthsFit};
 ghost use Rattle.bit_ops.specs.Rows.{value_of};
 ghost use Rattle.std.specs.List.{AllByRecursion};
-ghost use Rattle.net_ir.specs.Value.{words, widths, widths_of, operands, size, val};
-ghost use Rattle.net_ir.specs.Plain.{IsLawful, IsWhole, HaveInitialValues, IsPlain};
-ghost use Rattle.net_ir.specs.Pass.{source_of, sources_of, IsStorable, store, effect, run};
-ghost use Rattle.net_ir.specs.Run.{at_levels};
+ghost use Rattle.bit_ops.specs.Lists.{words, widths};
+ghost use Rattle.net_ir.specs.Value.{widths_of, operands, size, val};
+ghost use Rattle.net_ir.specs.Plain.{IsLawful, IsWhole, IsPlain};
+ghost use Rattle.net_ir.specs.Pass.{source_of, sources_of, KeepsInitial, state_of, IsStorable, store, effect, run};
 ghost use Rattle.net_ir.specs.Solution.{Solves};
 
 use crate::design::{Driver, Role, Spec, Target, Var};
@@ -110,39 +110,42 @@ pub fn evaluate(term: &Term, values: &[Bits]) -> Bits
     }
 }
 
-/// The values of all variables in the design's one solution for these values of the inputs: a value for each
-/// variable stands in `inputs`, and those of other variables are not read. Takes no memory.
-pub fn solve(spec: &Spec, inputs: &[Bits], values: &mut [Bits])
+/// The values of all variables in the design's one solution for these levels of the inputs and these words of the
+/// registers. A value for each variable stands in `inputs`, of which those of inputs are read, and in `registers`, where
+/// what no clocked process writes has its initial value. Takes no memory.
+pub fn solve(spec: &Spec, inputs: &[Bits], registers: &[Bits], values: &mut [Bits])
     requires plain { IsPlain spec.now }
     requires inputs { widths inputs.now ≡ widths_of spec.now.vars }
+    requires registers { widths registers.now ≡ widths_of spec.now.vars }
+    requires initial { KeepsInitial spec.now (words registers.now) }
     requires values { widths values.old ≡ widths_of spec.now.vars }
     ensures widths { widths values.new ≡ widths_of spec.now.vars }
-    ensures solved { Solves spec.now (at_levels (words inputs.now)) (words values.new) }
+    ensures solved { Solves spec.now (state_of inputs.now registers.now) (words values.new) }
 {
-    set_sources(spec.vars.as_slice(), inputs, values);
+    set_sources(spec.vars.as_slice(), inputs, registers, values);
     drive_all(spec.drivers.as_slice(), values);
 }
 
-/// What a variable has that no driver writes.
-fn source(var: &Var, input: Bits) -> Bits
-    ensures { result ≡ source_of var.now input }
+/// What a variable has before any driver's turn.
+fn source(var: &Var, input: Bits, held: Bits) -> Bits
+    ensures { result ≡ source_of var.now input held }
 {
     match var.role {
         Role::Input => input,
-        Role::Output => var.init,
+        Role::Output | Role::Inner => held,
     }
 }
 
-/// Gives each variable what it has where no driver writes it.
-fn set_sources(vars: &[Var], inputs: &[Bits], values: &mut [Bits])
-    requires vars { HaveInitialValues vars.now }
+/// Gives each variable what it has before any driver's turn.
+fn set_sources(vars: &[Var], inputs: &[Bits], registers: &[Bits], values: &mut [Bits])
     requires inputs { widths inputs.now ≡ widths_of vars.now }
+    requires registers { widths registers.now ≡ widths_of vars.now }
     requires values { length values.old ≡ length vars.now }
     ensures widths { widths values.new ≡ widths_of vars.now }
-    ensures sources { values.new ≡ sources_of vars.now inputs.now }
+    ensures sources { values.new ≡ sources_of vars.now inputs.now registers.now }
 {
     for x in 0..vars.len() {
-        values[x] = source(&vars[x], inputs[x]);
+        values[x] = source(&vars[x], inputs[x], registers[x]);
     }
 }
 
@@ -165,11 +168,12 @@ fn drive(driver: &Driver, values: &mut [Bits])
 {
     match driver {
         Driver::Assign { target, value, .. } => store(target, evaluate(value, values), values),
+        Driver::Clocked { .. } => {}
     }
 }
 
 /// Stores a value in the whole of a target.
-fn store(target: &Target, value: Bits, values: &mut [Bits])
+pub fn store(target: &Target, value: Bits, values: &mut [Bits])
     requires { IsStorable (widths values.old) target.now value.width }
     ensures widths { widths values.new ≡ widths values.old }
     ensures words { words values.new ≡ store target.now value.word (words values.old) }

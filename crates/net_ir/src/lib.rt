@@ -5,10 +5,16 @@
 pub mod design;
 pub mod evaluator;
 pub mod law;
+pub mod outside;
 pub mod plain;
+pub mod sampling;
+pub mod statement;
 pub mod term;
 
-pub use design::{Driver, Role, Spec, Target, Var};
+pub use design::{Driver, Role, Spec, Target, Trigger, Var};
 pub use evaluator::{evaluate, solve};
-pub use plain::can_be_taken_in_order;
+pub use outside::face;
+pub use plain::is_plain;
+pub use sampling::sample;
+pub use statement::Stmt;
 pub use term::Term;

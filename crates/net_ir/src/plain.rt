@@ -3,16 +3,27 @@
 ghost use Rattle.std.specs.Prelude.{◌≡◌, ◌↔◌, true, IsTrue, IfOk, slice_set};
 ghost use Rattle.std.specs.List.{AllByRecursion};
 ghost use Rattle.net_ir.specs.Value.{widths_of, reads_of};
-ghost use Rattle.net_ir.specs.Plain.{HaveInitialValues, IsWhole, SparesInputs, AreOrdered};
+ghost use Rattle.net_ir.specs.Plain.{HaveInitialValues, IsWhole, SparesInputs, AreOrdered, IsPlain};
 ghost use Rattle.net_ir.specs.Turns.{is_input, is_clear, is_free, are_clear, mark_target, takes_turn};
 
 use crate::design::{Driver, Role, Spec, Var};
 use crate::term::Term;
 use std::alloc::{AllocError, Global};
 
-/// Whether in a design of whole assignments no variable has two drivers, no driver writes an input, and none reads
-/// what it or a later one writes. The work is linear in the drivers and their terms.
-pub fn can_be_taken_in_order(alloc: Global, spec: &Spec) -> Result<bool, AllocError>
+/// Whether a design of whole assignments is plain: no bit has two drivers, no driver writes an input, no assignment reads
+/// what it or a later one writes, and each event control names an input of one bit that no expression reads. The work is
+/// linear in the design.
+pub fn is_plain(alloc: Global, spec: &Spec) -> Result<bool, AllocError>
+    requires vars { HaveInitialValues spec.now.vars }
+    requires whole { AllByRecursion (IsWhole (widths_of spec.now.vars)) spec.now.drivers }
+    ensures { IfOk result (λ yes. IsTrue yes ↔ IsPlain spec.now) }
+{
+    Err(AllocError)
+}
+
+/// Whether in a design of whole assignments no variable has two drivers, no driver writes an input, and no assignment
+/// reads what it or a later one writes.
+fn can_be_taken_in_order(alloc: Global, spec: &Spec) -> Result<bool, AllocError>
     requires vars { HaveInitialValues spec.now.vars }
     requires whole { AllByRecursion (IsWhole (widths_of spec.now.vars)) spec.now.drivers }
     ensures { IfOk result (λ yes. IsTrue yes ↔ (AllByRecursion (SparesInputs spec.now.vars) spec.now.drivers × AreOrdered (widths_of spec.now.vars) spec.now.drivers)) }
@@ -43,6 +54,7 @@ fn take_turn(driver: &Driver, vars: &[Var], written: &mut Vec<bool>) -> bool
             }
             None => false,
         },
+        Driver::Clocked { .. } => false,
     }
 }
 
@@ -52,7 +64,7 @@ fn is_input(var: &Var) -> bool
 {
     match var.role {
         Role::Input => true,
-        Role::Output => false,
+        Role::Output | Role::Inner => false,
     }
 }
 

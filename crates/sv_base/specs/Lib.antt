@@ -1,1 +1,4 @@
 pub mod Kind
+pub mod Spelling
+pub mod Steps
+pub mod TraceText

@@ -7,6 +7,7 @@ mod kind;
 mod name;
 mod refusal;
 mod sequence;
+pub mod spelling;
 
 pub use face::{Class, Face, Port, Summary, WrapperFace};
 pub use kind::Kind;

@@ -1,5 +1,6 @@
 use Rattle.std.proofs.Common.{◌≡◌, drop}
-use Rattle.net_ir.specs.Value.{words, widths, widths_of}
+use Rattle.bit_ops.specs.Lists.{words, widths}
+use Rattle.net_ir.specs.Value.{widths_of}
 use Rattle.net_ir.specs.Run.{set_all}
 use Rattle.lib_create.specs.StimulusReading.{settings_seen}
 use Rattle.lib_create.proofs.bench.set_inputs.Given as goal

@@ -1,5 +1,6 @@
 use Rattle.std.proofs.Common.{◌≡◌, ◌++◌, drop, map}
-use Rattle.net_ir.specs.Value.{words, widths, widths_of}
+use Rattle.bit_ops.specs.Lists.{words, widths}
+use Rattle.net_ir.specs.Value.{widths_of}
 use Rattle.lib_create.proofs.bench.zeros.Given as goal
 
 abbrev pub invariant-loop-var : goal.invariant-loop-var

@@ -1,6 +1,7 @@
 use Rattle.std.proofs.Common.{◌≡◌, ◌+◌, ◌<◌, ◌≤◌, ◌++◌, ◌∙◌, ap, subst, arith}
 use Rattle.io_edge.specs.Told.{added_both, added_front, added_front_after}
-use Rattle.net_ir.specs.Value.{words, widths_of}
+use Rattle.bit_ops.specs.Lists.{words}
+use Rattle.net_ir.specs.Value.{widths_of}
 use Rattle.net_ir.specs.Run.{at_levels, set_all}
 use Rattle.net_ir.specs.Trace.{Shows}
 use Rattle.lib_create.specs.StimulusReading.{settings_seen}

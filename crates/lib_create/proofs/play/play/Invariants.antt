@@ -1,6 +1,7 @@
 use Rattle.std.proofs.Common.{◌≡◌, ℕ, ◌+◌, ◌≤◌, List, Some}
 use Rattle.io_edge.specs.Told.{Added}
-use Rattle.net_ir.specs.Value.{words, widths, widths_of}
+use Rattle.bit_ops.specs.Lists.{words, widths}
+use Rattle.net_ir.specs.Value.{widths_of}
 use Rattle.net_ir.specs.Run.{at_levels}
 use Rattle.lib_create.specs.StimulusSteps.{script_left}
 use Rattle.lib_create.specs.Playing.{HasPlayed}

@@ -1,6 +1,6 @@
 use Rattle.std.proofs.Common.{refl}
 use Rattle.io_edge.specs.Told.{added_nothing}
-use Rattle.net_ir.specs.Value.{words}
+use Rattle.bit_ops.specs.Lists.{words}
 use Rattle.net_ir.specs.Text.{line}
 use Rattle.lib_create.proofs.play.show.Goals as goal
 

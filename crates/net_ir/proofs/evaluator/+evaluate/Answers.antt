@@ -4,7 +4,8 @@ use Rattle.std.proofs.lemmas.List.{length-map, length-set}
 use Rattle.net_ir.specs.declared.term.Term.{Apply}
 use Rattle.net_ir.specs.declared.term.Term.TheFolds.{the_lemmas}
 use borrow.Author.Rules.{get_or_read}
-use Rattle.net_ir.specs.Value.{words, widths, operands, operand_of, size, val}
+use Rattle.bit_ops.specs.Lists.{words, widths}
+use Rattle.net_ir.specs.Value.{operands, operand_of, size, val}
 use Rattle.net_ir.specs.Plain.{IsLawful}
 use Rattle.net_ir.proofs.Terms.{width_is_size}
 use Rattle.net_ir.proofs.Layers.{lawful_apply, lawful_arg, few_operands, operand_read, read_width, read_word, more_operands, all_fit, all_value, read_there}

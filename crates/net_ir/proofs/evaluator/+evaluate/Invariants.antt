@@ -1,5 +1,6 @@
 use Rattle.std.proofs.Common.{◌≡◌, ◌≤◌, length, map, take}
-use Rattle.net_ir.specs.Value.{words, widths, operands, operand_of}
+use Rattle.bit_ops.specs.Lists.{words, widths}
+use Rattle.net_ir.specs.Value.{operands, operand_of}
 use Rattle.net_ir.proofs.evaluator.+evaluate.Given as goal
 
 abbrev pub decreases-evaluate : goal.decreases-evaluate

@@ -1,5 +1,5 @@
 use Rattle.std.proofs.Common.{◌≡◌, sym, ◌∙◌, ap, subst}
-use Rattle.net_ir.specs.Value.{words, widths}
+use Rattle.bit_ops.specs.Lists.{words, widths}
 use Rattle.net_ir.specs.Plain.{IsWhole}
 use Rattle.net_ir.specs.Pass.{effect}
 use Rattle.net_ir.proofs.Passes.{all_at, run_more}

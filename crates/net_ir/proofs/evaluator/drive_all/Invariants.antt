@@ -1,5 +1,5 @@
 use Rattle.std.proofs.Common.{◌≡◌, drop}
-use Rattle.net_ir.specs.Value.{words, widths}
+use Rattle.bit_ops.specs.Lists.{words, widths}
 use Rattle.net_ir.specs.Pass.{run}
 use Rattle.net_ir.proofs.evaluator.drive_all.Given as goal
 

@@ -1,6 +1,6 @@
 use Rattle.std.proofs.Common.{◌∙◌, ap}
 use Rattle.std.proofs.lemmas.List.{length-set}
-use Rattle.net_ir.specs.Value.{widths}
+use Rattle.bit_ops.specs.Lists.{widths}
 use Rattle.net_ir.proofs.Passes.{length_from_widths, more_sources, all_sources, sources_widths}
 use Rattle.net_ir.proofs.evaluator.set_sources.Goals as goal
 

@@ -1,7 +1,7 @@
 //! In which order the sealed children of a unit are settled.
 
 ghost use Rattle.std.specs.Prelude.{◌<◌};
-ghost use Rattle.lib_create.specs.Order.{Picks};
+ghost use Rattle.model_stage.specs.Order.{Picks};
 
 /// An order of settling: asked for a sweep, counted from 1, and the number of children not yet visited in it, its
 /// closure answers which of them is next, counted from 0.

@@ -3,7 +3,7 @@
 ghost use Rattle.std.specs.Prelude.{◌≡◌};
 ghost use Rattle.std.specs.List.{list_all, list_any};
 ghost use Rattle.std.specs.Str.{bytes_eq};
-ghost use Rattle.lib_create.specs.Spelling.{begins_name, continues_name, is_name, is_reserved, is_free_name, used_words, refused_words};
+ghost use Rattle.sv_base.specs.Spelling.{begins_name, continues_name, is_name, is_reserved, is_free_name, used_words, refused_words};
 
 const USED_WORDS: [&str; 31] = [
     "module",

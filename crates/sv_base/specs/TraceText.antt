@@ -2,7 +2,7 @@
 use Rattle.std.specs.Prelude.{ℕ, zero, suc, ◌+◌, ◌/◌, ◌%◌, List, [], ◌∷◌, ◌++◌, codes, nat_lt, if◌then◌else◌}
 use Rattle.std.specs.List.{flat_map, zip}
 use Rattle.std.specs.Fmt.{decimal}
-use Rattle.net_ir.specs.declared.design.Var.{Var}
+use Rattle.sv_base.specs.declared.face.Port.{Port}
 
 -- a hexadecimal digit in lower case
 abbrev pub hex_digit : ℕ → ℕ
@@ -18,17 +18,17 @@ abbrev pub digits_of_width : ℕ → ℕ
 digits_of_width width = (width + 3) / 4
 
 -- what the header says of a port: a blank, its name, a colon and its width
-abbrev pub heading : Var → List ℕ
-heading v = 32 ∷ v.name ++ 58 ∷ decimal v.width
+abbrev pub heading : Port → List ℕ
+heading p = 32 ∷ p.name ++ 58 ∷ decimal p.width
 
 -- what a line says of a port: a blank, and its value with all its digits
-abbrev pub cell : Var × ℕ → List ℕ
-cell p = 32 ∷ hex_digits (digits_of_width p.0.width) p.1
+abbrev pub cell : Port × ℕ → List ℕ
+cell x = 32 ∷ hex_digits (digits_of_width x.0.width) x.1
 
 -- the first line: the word `step` and the ports
-abbrev pub header : List Var → List ℕ
-header vars = codes "step" ++ flat_map heading vars ++ 10 ∷ []
+abbrev pub header : List Port → List ℕ
+header ports = codes "step" ++ flat_map heading ports ++ 10 ∷ []
 
--- the line of a step: its number, and the ports' values on a valuation
-abbrev pub line : ℕ → List Var → List ℕ → List ℕ
-line number vars u = decimal number ++ flat_map cell (zip vars u) ++ 10 ∷ []
+-- the line of a step: its number, and the words of the ports
+abbrev pub line : ℕ → List Port → List ℕ → List ℕ
+line number ports words = decimal number ++ flat_map cell (zip ports words) ++ 10 ∷ []

@@ -2,13 +2,15 @@
 use Rattle.std.specs.Prelude.{ℕ, zero, suc, ◌+◌, ◌-◌, ◌*◌, ◌^◌, Bool, true, false, not, ◌&&◌, ◌||◌, ◌==◌, nat_lt, nat_le, List, [], ◌∷◌, ◌++◌, length, codes, Option, None, Some, Result, Ok, Err, if◌then◌else◌}
 use Rattle.std.specs.List.{list_any}
 use Rattle.std.specs.Str.{bytes_eq}
-use Rattle.net_ir.specs.declared.design.Role.{Role}
-use Rattle.net_ir.specs.declared.design.Role.TheVariants.{Input, Output}
-use Rattle.net_ir.specs.declared.design.Var.{Var}
-use Rattle.net_ir.specs.Run.{Setting, Step, Values}
-use Rattle.lib_create.specs.Spelling.{is_name}
-use Rattle.lib_create.specs.declared.reason.Reason.{Reason}
-use Rattle.lib_create.specs.declared.reason.Reason.TheVariants.{NoStep, NoSetting, NoInput, SetTwice, NoValue, LineTooLong, FileTooLong, TooManySteps}
+use Rattle.sv_base.specs.declared.face.Class.{Class}
+use Rattle.sv_base.specs.declared.face.Class.TheVariants as class
+use Rattle.sv_base.specs.declared.face.Port.{Port}
+use Rattle.sv_base.specs.Spelling.{is_name}
+use Rattle.sv_base.specs.Steps.{Setting, Step, Values, Clocks}
+use Rattle.stimulus_reader.specs.declared.reason.Reason.{Reason}
+use Rattle.stimulus_reader.specs.declared.reason.Reason.TheVariants.{NoStep, NoSetting, NoInput, IsClock, NoClock, SetTwice, NoValue, LineTooLong, FileTooLong, TooManySteps}
+use Rattle.stimulus_reader.specs.declared.step.StepKind.{StepKind}
+use Rattle.stimulus_reader.specs.declared.step.StepKind.TheVariants as kind
 
 -- ---- lines and words
 
@@ -76,14 +78,28 @@ abbrev pub named_part : Option (List ℕ × List ℕ) → Option (List ℕ × Li
 named_part None = None
 named_part (Some parts) = if is_name parts.0 && nat_lt 0 (length parts.1) then Some parts else None
 
--- the input of a name, by its number from n on, where there is one
-abbrev pub is_input : Role → Bool
-is_input Input = true
-is_input Output = false
+-- the input of a name, by its place among the ports from n on, where there is one
+abbrev pub is_input : Class → Bool
+is_input class.Value = true
+is_input class.Clock = true
+is_input class.Idle = true
+is_input class.Output = false
 
-abbrev pub input_from : ℕ → List Var → List ℕ → Option (ℕ × Var)
+abbrev pub input_from : ℕ → List Port → List ℕ → Option (ℕ × Port)
 input_from n [] name = None
-input_from n (v ∷ vars) name = if bytes_eq v.name name && is_input v.role then Some (n, v) else input_from (n + 1) vars name
+input_from n (p ∷ ports) name = if bytes_eq p.name name && is_input p.class then Some (n, p) else input_from (n + 1) ports name
+
+-- why a line of this kind may not set an input of this class and width: a line of data sets no clock, and a line of clocks sets
+-- no data, and of idle inputs those of one bit
+abbrev pub class_fault : StepKind → Class → ℕ → Option Reason
+class_fault kind.Values class.Clock width = Some IsClock
+class_fault kind.Values class.Value width = None
+class_fault kind.Values class.Idle width = None
+class_fault kind.Values class.Output width = None
+class_fault kind.Clocks class.Clock width = None
+class_fault kind.Clocks class.Value width = Some NoClock
+class_fault kind.Clocks class.Idle width = if width == 1 then None else Some NoClock
+class_fault kind.Clocks class.Output width = None
 
 -- the value of a hexadecimal digit in either case
 abbrev pub digit_of : ℕ → Option ℕ
@@ -109,28 +125,47 @@ within_width width (Some word) = if nat_lt word (2 ^ width) then Some word else 
 abbrev pub word_in : ℕ → List ℕ → Option ℕ
 word_in width text = if nat_lt 0 (length text) && nat_le (length text) 16 then within_width width (number_from (Some 0) text) else None
 
+-- the level that a value's text gives a clock: the digit 0 or 1
+abbrev pub level_in : List ℕ → Option ℕ
+level_in [] = None
+level_in (b ∷ []) = if b == 48 then Some 0 else (if b == 49 then Some 1 else None)
+level_in (b ∷ c ∷ digits) = None
+
+-- the word that a value's text gives an input of this width on a line of this kind
+abbrev pub value_in : StepKind → ℕ → List ℕ → Option ℕ
+value_in kind.Values width text = word_in width text
+value_in kind.Clocks width text = level_in text
+
 -- what is wrong with a line: the reason, and the word that the message names
 pub record Fault : Type 0 where
   pub reason : Reason
   pub word : List ℕ
 
 abbrev pub valued : ℕ → List ℕ → Option ℕ → Result Setting Fault
-valued var text None = Err (record { reason = NoValue; word = text })
-valued var text (Some word) = Ok (record { var = var; word = word })
+valued port text None = Err (record { reason = NoValue; word = text })
+valued port text (Some word) = Ok (record { port = port; word = word })
 
-abbrev pub set_input : List ℕ → List ℕ → List ℕ → Option (ℕ × Var) → Result Setting Fault
-set_input set name text None = Err (record { reason = NoInput; word = name })
-set_input set name text (Some found) =
-    if list_any (λ var. var == found.0) set then Err (record { reason = SetTwice; word = name }) else valued found.0 text (word_in found.1.width text)
+abbrev pub unless_set : List ℕ → List ℕ → ℕ → Result Setting Fault → Result Setting Fault
+unless_set set name port go = if list_any (λ other. other == port) set then Err (record { reason = SetTwice; word = name }) else go
 
-abbrev pub setting_of_parts : List Var → List ℕ → List ℕ → Option (List ℕ × List ℕ) → Result Setting Fault
-setting_of_parts vars set word None = Err (record { reason = NoSetting; word = word })
-setting_of_parts vars set word (Some parts) = set_input set parts.0 parts.1 (input_from 0 vars parts.0)
+abbrev pub unless_fault : List ℕ → Option Reason → Result Setting Fault → Result Setting Fault
+unless_fault name (Some reason) go = Err (record { reason = reason; word = name })
+unless_fault name None go = go
 
--- what a word sets, where the inputs of these numbers were set before it in the line: its form, its name, a repetition and its value are
--- judged in this order
-abbrev pub setting_of : List Var → List ℕ → List ℕ → Result Setting Fault
-setting_of vars set word = setting_of_parts vars set word (named_part (parts_of word))
+abbrev pub set_input : StepKind → List ℕ → List ℕ → List ℕ → Option (ℕ × Port) → Result Setting Fault
+set_input of set name text None = Err (record { reason = NoInput; word = name })
+set_input of set name text (Some found) =
+    unless_fault name (class_fault of found.1.class found.1.width)
+    (unless_set set name found.0 (valued found.0 text (value_in of found.1.width text)))
+
+abbrev pub setting_of_parts : List Port → StepKind → List ℕ → List ℕ → Option (List ℕ × List ℕ) → Result Setting Fault
+setting_of_parts ports of set word None = Err (record { reason = NoSetting; word = word })
+setting_of_parts ports of set word (Some parts) = set_input of set parts.0 parts.1 (input_from 0 ports parts.0)
+
+-- what a word of a line of this kind sets, where the inputs at these places were set before it in the line: its form, its name, its
+-- class, a repetition and its value are judged in this order
+abbrev pub setting_of : List Port → StepKind → List ℕ → List ℕ → Result Setting Fault
+setting_of ports of set word = setting_of_parts ports of set word (named_part (parts_of word))
 
 -- ---- steps
 
@@ -142,10 +177,10 @@ abbrev pub after_setting : Result Setting Fault → (Setting → Result (List Se
 after_setting (Err fault) go = Err fault
 after_setting (Ok first) go = with_setting first (go first)
 
--- what words set, from left to right, up to the first that is wrong, where the inputs of these numbers were set before them
-abbrev pub settings_of : List Var → List ℕ → List (List ℕ) → Result (List Setting) Fault
-settings_of vars set [] = Ok []
-settings_of vars set (word ∷ words) = after_setting (setting_of vars set word) (λ first. settings_of vars (first.var ∷ set) words)
+-- what words set, from left to right, up to the first that is wrong, where the inputs at these places were set before them
+abbrev pub settings_of : List Port → StepKind → List ℕ → List (List ℕ) → Result (List Setting) Fault
+settings_of ports of set [] = Ok []
+settings_of ports of set (word ∷ words) = after_setting (setting_of ports of set word) (λ first. settings_of ports of (first.port ∷ set) words)
 
 -- what a line asks for: nothing, where it has no words or is a comment, or a step, or it is wrong
 pub data Meaning : Type 0 where
@@ -153,20 +188,31 @@ pub data Meaning : Type 0 where
   Stepped : (step : Step) → Meaning
   Refused : (fault : Fault) → Meaning
 
-abbrev pub meaning_of_settings : Result (List Setting) Fault → Meaning
-meaning_of_settings (Ok settings) = Stepped (Values settings)
-meaning_of_settings (Err fault) = Refused fault
+abbrev pub step_of : StepKind → List Setting → Step
+step_of kind.Values settings = Values settings
+step_of kind.Clocks settings = Clocks settings
+
+abbrev pub meaning_of_settings : StepKind → Result (List Setting) Fault → Meaning
+meaning_of_settings of (Ok settings) = Stepped (step_of of settings)
+meaning_of_settings of (Err fault) = Refused fault
 
 -- a word that begins with `#` makes a comment of its line
 abbrev pub is_comment : List ℕ → Bool
 is_comment [] = false
 is_comment (b ∷ bytes) = b == 35
 
+-- the kind of step that a first word begins, `d` or `c`
+abbrev pub kind_of : List ℕ → Option StepKind
+kind_of word = if bytes_eq word (codes "d") then Some kind.Values else (if bytes_eq word (codes "c") then Some kind.Clocks else None)
+
+abbrev pub meaning_of_kind : List Port → List ℕ → Option StepKind → List (List ℕ) → Meaning
+meaning_of_kind ports word None words = Refused (record { reason = NoStep; word = word })
+meaning_of_kind ports word (Some of) words = meaning_of_settings of (settings_of ports of [] words)
+
 -- what the words of a line ask for
-abbrev pub meaning_of_words : List Var → List (List ℕ) → Meaning
-meaning_of_words vars [] = Skipped
-meaning_of_words vars (word ∷ words) =
-    if is_comment word then Skipped else (if bytes_eq word (codes "d") then meaning_of_settings (settings_of vars [] words) else Refused (record { reason = NoStep; word = word }))
+abbrev pub meaning_of_words : List Port → List (List ℕ) → Meaning
+meaning_of_words ports [] = Skipped
+meaning_of_words ports (word ∷ words) = if is_comment word then Skipped else meaning_of_kind ports word (kind_of word) words
 
 -- ---- limits
 
@@ -219,17 +265,17 @@ unless_limit number None script = script
 
 -- The script of lines, the first of which has this number and begins at this place of the file, where so many steps more are allowed.
 -- A line's limits come before the count of steps, and that before what its words say.
-abbrev pub script_from : List Var → ℕ → ℕ → ℕ → List Line → Script
-script_from vars more number at [] = ended
-script_from vars more number at (line ∷ lines) =
+abbrev pub script_from : List Port → ℕ → ℕ → ℕ → List Line → Script
+script_from ports more number at [] = ended
+script_from ports more number at (line ∷ lines) =
     unless_limit number (limit_of at line)
-    (script_of_meaning more number (meaning_of_words vars (words_of (content_of line)))
-    (script_from vars more (number + 1) (at + span line) lines)
-    (script_from vars (more - 1) (number + 1) (at + span line) lines))
+    (script_of_meaning more number (meaning_of_words ports (words_of (content_of line)))
+    (script_from ports more (number + 1) (at + span line) lines)
+    (script_from ports (more - 1) (number + 1) (at + span line) lines))
 
 -- the script of a stimulus file, where at most so many steps are allowed
-abbrev pub script_of : List Var → ℕ → List ℕ → Script
-script_of vars most bytes = script_from vars most 1 0 (lines_of bytes)
+abbrev pub script_of : List Port → ℕ → List ℕ → Script
+script_of ports most bytes = script_from ports most 1 0 (lines_of bytes)
 
 -- ---- messages
 
@@ -238,6 +284,8 @@ abbrev pub reason_text : Reason → List ℕ → List ℕ
 reason_text NoStep word = word ++ codes " is no step"
 reason_text NoSetting word = word ++ codes " is no setting"
 reason_text NoInput word = word ++ codes " is no input"
+reason_text IsClock word = word ++ codes " is a clock"
+reason_text NoClock word = word ++ codes " is no clock"
 reason_text SetTwice word = word ++ codes " is set twice"
 reason_text NoValue word = word ++ codes " is no value"
 reason_text LineTooLong word = codes "line too long"
