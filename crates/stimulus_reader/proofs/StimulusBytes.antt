@@ -2,12 +2,12 @@
 use Rattle.std.proofs.Common.{◌≡◌, ℕ, suc, ◌+◌, ◌<◌, ◌≤◌, Bool, true, false, ◌==◌, List, [], ◌∷◌, ◌++◌, length, refl, sym, ap, subst, ◌∙◌, arith, append-nil, Option, None, Some}
 use Rattle.std.specs.List.{AllByRecursion}
 use Rattle.std.proofs.lemmas.Bool.Decides.{nat_tests}
-use Rattle.lib_create.specs.declared.reason.Reason.TheVariants.{LineTooLong, FileTooLong}
-use Rattle.lib_create.specs.declared.found.Found.{Found}
-use Rattle.lib_create.specs.declared.found.Found.TheVariants as found
-use Rattle.lib_create.specs.declared.found.Turn.TheVariants as turn
-use Rattle.lib_create.specs.Stimulus.{Line, onto_line, lines_of, span, limit_of, line_limit, file_limit}
-use Rattle.lib_create.specs.StimulusSource.{LeftSo, IsNextByte, IsTurn, IsFound}
+use Rattle.stimulus_reader.specs.declared.reason.Reason.TheVariants.{LineTooLong, FileTooLong}
+use Rattle.stimulus_reader.specs.declared.found.Found.{Found}
+use Rattle.stimulus_reader.specs.declared.found.Found.TheVariants as found
+use Rattle.stimulus_reader.specs.declared.found.Turn.TheVariants as turn
+use Rattle.stimulus_reader.specs.Stimulus.{Line, onto_line, lines_of, span, limit_of, line_limit, file_limit}
+use Rattle.stimulus_reader.specs.StimulusSource.{LeftSo, IsNextByte, IsTurn, IsFound}
 
 -- no byte is an LF
 abbrev pub NoLf : List ℕ → Type 0

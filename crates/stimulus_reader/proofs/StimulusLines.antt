@@ -5,10 +5,10 @@ use Rattle.std.proofs.lemmas.Bool.Decides.{nat_tests}
 use Rattle.std.proofs.lemmas.List.{reverse-append}
 use Rattle.net_ir.specs.declared.design.Var.{Var}
 use Rattle.net_ir.specs.Run.{Values, Setting as Assigned}
-use Rattle.lib_create.specs.declared.setting.Setting.{Setting}
-use Rattle.lib_create.specs.declared.setting.BadWord.{BadWord}
-use Rattle.lib_create.specs.Stimulus.{Fault, without_cr, words_of, setting_of, with_setting, after_setting, settings_of, meaning_of_settings, Stepped, Refused}
-use Rattle.lib_create.specs.StimulusReading.{setting_seen, settings_seen, inputs_set, fault_seen}
+use Rattle.stimulus_reader.specs.declared.setting.Setting.{Setting}
+use Rattle.stimulus_reader.specs.declared.setting.BadWord.{BadWord}
+use Rattle.stimulus_reader.specs.Stimulus.{Fault, without_cr, words_of, setting_of, with_setting, after_setting, settings_of, meaning_of_settings, Stepped, Refused}
+use Rattle.stimulus_reader.specs.StimulusReading.{setting_seen, settings_seen, inputs_set, fault_seen}
 
 -- ---- the CR
 

@@ -13,11 +13,11 @@ use Rattle.net_ir.specs.Plain.{HaveInitialValues}
 use Rattle.bit_ops.specs.declared.value.Bits.{Bits}
 use Rattle.std.proofs.lemmas.Option.{get_or_from_slice_get}
 use Rattle.net_ir.specs.Run.{Setting as Assigned}
-use Rattle.lib_create.specs.declared.reason.Reason.TheVariants.{SetTwice}
-use Rattle.lib_create.specs.declared.setting.Setting.{Setting}
-use Rattle.lib_create.specs.Spelling.{is_name}
-use Rattle.lib_create.specs.Stimulus.{Fault, digit_of, more_digits, number_from, word_in, parts_of, before_first_part, named_part, is_input, input_from, setting_of, setting_of_parts, set_input, valued}
-use Rattle.lib_create.specs.StimulusReading.{IsInputOf, IsSettable, inputs_set}
+use Rattle.stimulus_reader.specs.declared.reason.Reason.TheVariants.{SetTwice}
+use Rattle.stimulus_reader.specs.declared.setting.Setting.{Setting}
+use Rattle.sv_base.specs.Spelling.{is_name}
+use Rattle.stimulus_reader.specs.Stimulus.{Fault, digit_of, more_digits, number_from, word_in, parts_of, before_first_part, named_part, is_input, input_from, setting_of, setting_of_parts, set_input, valued}
+use Rattle.stimulus_reader.specs.StimulusReading.{IsInputOf, IsSettable, inputs_set}
 
 -- ---- numbers
 

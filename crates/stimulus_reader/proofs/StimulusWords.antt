@@ -6,7 +6,7 @@ use Rattle.std.proofs.lemmas.List.{get_or-drop}
 use Rattle.std.proofs.lemmas.List.Sums.{fails_before_first}
 use Rattle.std.proofs.lemmas.Bool.Decides.{nat_tests}
 use Rattle.std.proofs.lemmas.List.Quantifiers.{position-Some}
-use Rattle.lib_create.specs.Stimulus.{separates, joins, onto_word, words_of}
+use Rattle.stimulus_reader.specs.Stimulus.{separates, joins, onto_word, words_of}
 
 -- separators in front of a text change nothing
 pub words_behind : (xs : List ℕ) (n : ℕ) → n ≤ length xs → ((k : ℕ) → k < n → separates (get_or xs k 0) ≡ true) → words_of xs ≡ words_of (drop n xs)

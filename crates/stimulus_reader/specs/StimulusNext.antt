@@ -1,8 +1,8 @@
 -- What the reader of a stimulus answers.
 use Rattle.std.specs.Prelude.{◌≡◌, ℕ, List}
-use Rattle.lib_create.specs.declared.reason.Reason.{Reason}
-use Rattle.lib_create.specs.declared.step.Next.{Next}
-use Rattle.lib_create.specs.declared.step.Next.TheVariants.{End, Step, Bad}
+use Rattle.stimulus_reader.specs.declared.reason.Reason.{Reason}
+use Rattle.stimulus_reader.specs.declared.step.Next.{Next}
+use Rattle.stimulus_reader.specs.declared.step.Next.TheVariants.{End, Step, Bad}
 
 -- a bad line of this number, for this reason, with this word
 abbrev pub IsBadLine : ℕ → Reason → List ℕ → Next → Type 0

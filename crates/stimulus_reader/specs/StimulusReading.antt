@@ -4,12 +4,12 @@ use Rattle.net_ir.specs.declared.design.Role.TheVariants.{Input}
 use Rattle.net_ir.specs.declared.design.Var.{Var}
 use Rattle.net_ir.specs.Run.{Setting as Assigned}
 use Rattle.net_ir.specs.Run.{Values}
-use Rattle.lib_create.specs.Stimulus.{Fault, input_from, Meaning as Asked}
-use Rattle.lib_create.specs.Stimulus as asked
-use Rattle.lib_create.specs.declared.setting.Setting.{Setting}
-use Rattle.lib_create.specs.declared.setting.BadWord.{BadWord}
-use Rattle.lib_create.specs.declared.line.Meaning.{Meaning}
-use Rattle.lib_create.specs.declared.line.Meaning.TheVariants.{Skipped, Stepped, Refused}
+use Rattle.stimulus_reader.specs.Stimulus.{Fault, input_from, Meaning as Asked}
+use Rattle.stimulus_reader.specs.Stimulus as asked
+use Rattle.stimulus_reader.specs.declared.setting.Setting.{Setting}
+use Rattle.stimulus_reader.specs.declared.setting.BadWord.{BadWord}
+use Rattle.stimulus_reader.specs.declared.line.Meaning.{Meaning}
+use Rattle.stimulus_reader.specs.declared.line.Meaning.TheVariants.{Skipped, Stepped, Refused}
 
 -- the input of a name and its number
 pub record IsInputOf (vars : List Var) (name : List ℕ) (number : ℕ) : Type 0 where

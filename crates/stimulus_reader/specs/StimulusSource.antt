@@ -1,15 +1,15 @@
 -- What is read from a source of a stimulus.
 use Rattle.std.specs.Prelude.{◌≡◌, ℕ, ◌+◌, ◌<◌, ◌≤◌, true, false, ◌==◌, List, [], ◌∷◌, ⊤, Option, None, Some}
 use Rattle.io_edge.specs.Fault.{Rose}
-use Rattle.lib_create.specs.declared.reason.Reason.TheVariants.{LineTooLong, FileTooLong}
-use Rattle.lib_create.specs.declared.stop.Stop.{Stop}
-use Rattle.lib_create.specs.declared.stop.Stop.TheVariants.{ReadFault, WriteFault, NoMemory}
-use Rattle.lib_create.specs.declared.found.Found.{Found}
-use Rattle.lib_create.specs.declared.found.Found.TheVariants.{End, Line, Long}
-use Rattle.lib_create.specs.declared.found.Turn.{Turn}
-use Rattle.lib_create.specs.declared.found.Turn.TheVariants.{More, Done}
-use Rattle.lib_create.specs.Stimulus.{lines_of, span, limit_of, line_limit, file_limit}
-use Rattle.lib_create.specs.Stimulus as stimulus
+use Rattle.stimulus_reader.specs.declared.reason.Reason.TheVariants.{LineTooLong, FileTooLong}
+use Rattle.stimulus_reader.specs.declared.stop.Stop.{Stop}
+use Rattle.stimulus_reader.specs.declared.stop.Stop.TheVariants.{ReadFault, WriteFault, NoMemory}
+use Rattle.stimulus_reader.specs.declared.found.Found.{Found}
+use Rattle.stimulus_reader.specs.declared.found.Found.TheVariants.{End, Line, Long}
+use Rattle.stimulus_reader.specs.declared.found.Turn.{Turn}
+use Rattle.stimulus_reader.specs.declared.found.Turn.TheVariants.{More, Done}
+use Rattle.stimulus_reader.specs.Stimulus.{lines_of, span, limit_of, line_limit, file_limit}
+use Rattle.stimulus_reader.specs.Stimulus as stimulus
 
 -- this holds of the bytes left before and after, where the source tells them; what it doesn't tell stays untold
 abbrev pub LeftSo : Option (List ℕ) → Option (List ℕ) → (List ℕ → List ℕ → Type 0) → Type 0

@@ -2,12 +2,12 @@
 use Rattle.std.specs.Prelude.{◌≡◌, ℕ, ◌+◌, ◌-◌, Bool, List, Option, None, Some}
 use Rattle.net_ir.specs.declared.design.Var.{Var}
 use Rattle.net_ir.specs.Run.{Values}
-use Rattle.lib_create.specs.Stimulus.{Line, Script, ended, stopped, with_step, lines_of, words_of, content_of, span, meaning_of_words, script_of_meaning, script_from}
-use Rattle.lib_create.specs.StimulusReading.{settings_seen}
-use Rattle.lib_create.specs.declared.setting.Setting.{Setting}
-use Rattle.lib_create.specs.declared.step.Next.{Next}
-use Rattle.lib_create.specs.declared.step.Next.TheVariants.{End, Step, Bad}
-use Rattle.lib_create.specs.declared.step.StepReader.{StepReader}
+use Rattle.stimulus_reader.specs.Stimulus.{Line, Script, ended, stopped, with_step, lines_of, words_of, content_of, span, meaning_of_words, script_of_meaning, script_from}
+use Rattle.stimulus_reader.specs.StimulusReading.{settings_seen}
+use Rattle.stimulus_reader.specs.declared.setting.Setting.{Setting}
+use Rattle.stimulus_reader.specs.declared.step.Next.{Next}
+use Rattle.stimulus_reader.specs.declared.step.Next.TheVariants.{End, Step, Bad}
+use Rattle.stimulus_reader.specs.declared.step.StepReader.{StepReader}
 
 -- the script of the bytes that are left, from where the reader stands
 abbrev pub script_left : List Var → StepReader → List ℕ → Script

@@ -1,8 +1,8 @@
 //! The lines of a stimulus, read from a source.
 
 ghost use Rattle.std.specs.Prelude.{◌≡◌, ◌+◌, ◌<◌, ◌≤◌, length, IfOk, IfErr, OnErr};
-ghost use Rattle.lib_create.specs.StimulusSource.{LeftSo, IsNextByte, IsTurn, IsFound, FoundWithin, IsCause};
-ghost use Rattle.lib_create.specs.declared.found.TheConstants.{LINE_LIMIT, FILE_LIMIT};
+ghost use Rattle.stimulus_reader.specs.StimulusSource.{LeftSo, IsNextByte, IsTurn, IsFound, FoundWithin, IsCause};
+ghost use Rattle.stimulus_reader.specs.declared.found.TheConstants.{LINE_LIMIT, FILE_LIMIT};
 
 use crate::reason::Reason;
 use crate::stop::Stop;

@@ -3,8 +3,8 @@
 ghost use Rattle.std.specs.Prelude.{◌≡◌, [], length, not, IfOk, IsTrue};
 ghost use Rattle.std.specs.List.{AllByRecursion};
 ghost use Rattle.net_ir.specs.Plain.{HaveInitialValues};
-ghost use Rattle.lib_create.specs.Stimulus.{without_cr, words_of, content_of, settings_of, meaning_of_settings, meaning_of_words, is_comment};
-ghost use Rattle.lib_create.specs.StimulusReading.{IsSettable, meaning_seen};
+ghost use Rattle.stimulus_reader.specs.Stimulus.{without_cr, words_of, content_of, settings_of, meaning_of_settings, meaning_of_words, is_comment};
+ghost use Rattle.stimulus_reader.specs.StimulusReading.{IsSettable, meaning_seen};
 
 use crate::reason::Reason;
 use crate::setting::{BadWord, Setting, read_setting};

@@ -9,9 +9,14 @@ pub enum Reason {
     NoSetting,
     /// No input has the name.
     NoInput,
+    /// A line of data sets a clock.
+    IsClock,
+    /// A line of clocks sets an input that is no clock, and no idle input of one bit.
+    NoClock,
     /// The input was set before in the line.
     SetTwice,
-    /// The text is no hexadecimal number of 1 to 16 digits, or the input's width does not hold it.
+    /// The text is no hexadecimal number of 1 to 16 digits, or the input's width does not hold it; on a line of
+    /// clocks it is neither `0` nor `1`.
     NoValue,
     /// The line has more than 65,536 bytes before its LF.
     LineTooLong,

@@ -6,12 +6,12 @@ ghost use Rattle.std.specs.Option.{option_map};
 ghost use Rattle.std.specs.Str.{bytes_eq};
 ghost use Rattle.bit_ops.specs.Width.{IsWidth};
 ghost use Rattle.net_ir.specs.Plain.{HaveInitialValues};
-ghost use Rattle.lib_create.specs.Spelling.{is_name};
-ghost use Rattle.lib_create.specs.Stimulus.{digit_of, number_from, word_in, parts_of, named_part, is_input, input_from, setting_of};
-ghost use Rattle.lib_create.specs.StimulusReading.{IsInputOf, IsSettable, inputs_set, setting_result};
+ghost use Rattle.sv_base.specs.Spelling.{is_name};
+ghost use Rattle.stimulus_reader.specs.Stimulus.{digit_of, number_from, word_in, parts_of, named_part, is_input, input_from, setting_of};
+ghost use Rattle.stimulus_reader.specs.StimulusReading.{IsInputOf, IsSettable, inputs_set, setting_result};
 
 use crate::reason::Reason;
-use crate::spelling::is_name;
+use sv_base::spelling::is_name;
 use bit_ops::Bits;
 use net_ir::{Role, Var};
 

@@ -1,8 +1,8 @@
 //! The steps of a stimulus, read one after another.
 
 ghost use Rattle.std.specs.Prelude.{◌≡◌, ◌+◌, ◌<◌, ◌≤◌, ◌^◌, [], if◌then◌else◌};
-ghost use Rattle.lib_create.specs.Stimulus.{file_limit};
-ghost use Rattle.lib_create.specs.StimulusNext.{IsBadLine};
+ghost use Rattle.stimulus_reader.specs.Stimulus.{file_limit};
+ghost use Rattle.stimulus_reader.specs.StimulusNext.{IsBadLine};
 
 use crate::found::{Found, LINE_LIMIT, take_line};
 use crate::line::{Meaning, read_line};
@@ -46,10 +46,10 @@ impl StepReader {
     ghost use Rattle.std.specs.List.{AllByRecursion};
     ghost use Rattle.net_ir.specs.declared.design.Var.{Var};
     ghost use Rattle.net_ir.specs.Plain.{HaveInitialValues};
-    ghost use Rattle.lib_create.specs.Stimulus.{script_of, span};
-    ghost use Rattle.lib_create.specs.StimulusReading.{IsSettable};
-    ghost use Rattle.lib_create.specs.StimulusSource.{LeftSo, IsCause};
-    ghost use Rattle.lib_create.specs.StimulusSteps.{script_left, Gives, GivesLine, settings_of_step, line_in, Judges};
+    ghost use Rattle.stimulus_reader.specs.Stimulus.{script_of, span};
+    ghost use Rattle.stimulus_reader.specs.StimulusReading.{IsSettable};
+    ghost use Rattle.stimulus_reader.specs.StimulusSource.{LeftSo, IsCause};
+    ghost use Rattle.stimulus_reader.specs.StimulusSteps.{script_left, Gives, GivesLine, settings_of_step, line_in, Judges};
 
     /// A reader at the front of a file, in which at most so many steps are allowed.
     pub fn new(alloc: Global, most: u64) -> Result<StepReader, AllocError>

@@ -2,7 +2,7 @@
 
 ghost use Rattle.std.specs.Prelude.{◌≡◌, ◌<◌, [], ◌∷◌, length, not, MatchOption, IfSome};
 ghost use Rattle.std.specs.List.{position};
-ghost use Rattle.lib_create.specs.Stimulus.{separates, words_of};
+ghost use Rattle.stimulus_reader.specs.Stimulus.{separates, words_of};
 
 fn is_blank(byte: u8) -> bool
     ensures { result ≡ separates byte }

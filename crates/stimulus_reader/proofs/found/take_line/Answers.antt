@@ -1,6 +1,6 @@
 use Rattle.std.proofs.Common.{arith}
-use Rattle.lib_create.proofs.StimulusBytes.{found_in}
-use Rattle.lib_create.proofs.found.take_line.Goals as goal
+use Rattle.stimulus_reader.proofs.StimulusBytes.{found_in}
+use Rattle.stimulus_reader.proofs.found.take_line.Goals as goal
 
 pub returns-in-Done-clause-found : goal.returns-in-Done-clause-found
 returns-in-Done-clause-found g c =

@@ -1,8 +1,8 @@
 use Rattle.std.proofs.Common.{◌≡◌, ◌+◌, ◌-◌, ◌≤◌, ◌++◌, length}
-use Rattle.lib_create.specs.Stimulus.{line_limit, file_limit}
-use Rattle.lib_create.specs.StimulusSource.{LeftSo}
-use Rattle.lib_create.proofs.StimulusBytes.{NoLf}
-use Rattle.lib_create.proofs.found.take_line.Given as goal
+use Rattle.stimulus_reader.specs.Stimulus.{line_limit, file_limit}
+use Rattle.stimulus_reader.specs.StimulusSource.{LeftSo}
+use Rattle.stimulus_reader.proofs.StimulusBytes.{NoLf}
+use Rattle.stimulus_reader.proofs.found.take_line.Given as goal
 
 abbrev pub invariant-bytes : goal.invariant-bytes
 invariant-bytes g l = record {

@@ -1,6 +1,6 @@
-use Rattle.lib_create.specs.StimulusReading.{IsSettable}
-use Rattle.lib_create.proofs.StimulusLines.{read_more, read_bad, read_whole, all_settable}
-use Rattle.lib_create.proofs.line.read_settings.Goals as goal
+use Rattle.stimulus_reader.specs.StimulusReading.{IsSettable}
+use Rattle.stimulus_reader.proofs.StimulusLines.{read_more, read_bad, read_whole, all_settable}
+use Rattle.stimulus_reader.proofs.line.read_settings.Goals as goal
 
 pub returns-in-Err-clause-gives : goal.returns-in-Err-clause-gives
 returns-in-Err-clause-gives c =

@@ -1,8 +1,8 @@
 use Rattle.std.proofs.Common.{length}
 use Rattle.std.specs.List.{AllByRecursion}
-use Rattle.lib_create.specs.StimulusReading.{IsSettable}
-use Rattle.lib_create.proofs.StimulusLines.{ReadSoFar}
-use Rattle.lib_create.proofs.line.read_settings.Given as goal
+use Rattle.stimulus_reader.specs.StimulusReading.{IsSettable}
+use Rattle.stimulus_reader.proofs.StimulusLines.{ReadSoFar}
+use Rattle.stimulus_reader.proofs.line.read_settings.Given as goal
 
 abbrev pub invariant-loop-word : goal.invariant-loop-word
 invariant-loop-word l = record {

@@ -1,5 +1,5 @@
-use Rattle.lib_create.proofs.StimulusSettings.{input_of}
-use Rattle.lib_create.proofs.setting.input.Goals as goal
+use Rattle.stimulus_reader.proofs.StimulusSettings.{input_of}
+use Rattle.stimulus_reader.proofs.setting.input.Goals as goal
 
 pub returns-clause-found : goal.returns-clause-found
 returns-clause-found c = input_of c.args.vars.now c.args.name.now c.position_of_input.result c.position_of_input.ensures

@@ -1,6 +1,6 @@
 use Rattle.std.proofs.Common.{arith, sym, ◌∙◌}
-use Rattle.lib_create.proofs.StimulusSettings.{number_below, number_stops}
-use Rattle.lib_create.proofs.setting.number.Goals as goal
+use Rattle.stimulus_reader.proofs.StimulusSettings.{number_below, number_stops}
+use Rattle.stimulus_reader.proofs.setting.number.Goals as goal
 
 pub overflow_mul-number : goal.overflow_mul-number
 overflow_mul-number c = let inside = number_below c.loop-b.number 0 c.loop-b.b-index c.loop-b.invariant.below (omega arith) (omega arith) in omega arith

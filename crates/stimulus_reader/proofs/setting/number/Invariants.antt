@@ -1,6 +1,6 @@
 use Rattle.std.proofs.Common.{◌≡◌, ◌<◌, ◌^◌, drop, Some}
-use Rattle.lib_create.specs.Stimulus.{number_from}
-use Rattle.lib_create.proofs.setting.number.Given as goal
+use Rattle.stimulus_reader.specs.Stimulus.{number_from}
+use Rattle.stimulus_reader.proofs.setting.number.Given as goal
 
 abbrev pub invariant-loop-b : goal.invariant-loop-b
 invariant-loop-b l = record {

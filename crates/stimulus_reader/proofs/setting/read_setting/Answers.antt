@@ -1,6 +1,6 @@
 use Rattle.std.proofs.Common.{sym, ◌∙◌}
-use Rattle.lib_create.proofs.StimulusSettings.{set_twice, set_once, width_at, settable_at}
-use Rattle.lib_create.proofs.setting.read_setting.Goals as goal
+use Rattle.stimulus_reader.proofs.StimulusSettings.{set_twice, set_once, width_at, settable_at}
+use Rattle.stimulus_reader.proofs.setting.read_setting.Goals as goal
 
 pub returns-then-is_set-clause-gives : goal.returns-then-is_set-clause-gives
 returns-then-is_set-clause-gives c =

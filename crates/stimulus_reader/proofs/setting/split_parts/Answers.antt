@@ -1,6 +1,6 @@
 use Rattle.std.proofs.Common.{sym}
-use Rattle.lib_create.proofs.StimulusSettings.{parts_none, parts_split}
-use Rattle.lib_create.proofs.setting.split_parts.Goals as goal
+use Rattle.stimulus_reader.proofs.StimulusSettings.{parts_none, parts_split}
+use Rattle.stimulus_reader.proofs.setting.split_parts.Goals as goal
 
 pub returns-in_err-at : goal.returns-in_err-at
 returns-in_err-at c = rw c.from_residual.ensures (sym (parts_none c.args.word.now _ c.equals_sign.ensures c.in_err-at.was))

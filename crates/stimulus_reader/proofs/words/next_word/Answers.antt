@@ -1,6 +1,6 @@
 use Rattle.std.proofs.Common.{sym, ◌∙◌}
-use Rattle.lib_create.proofs.StimulusWords.{front_none, front_parts}
-use Rattle.lib_create.proofs.words.next_word.Goals as goal
+use Rattle.stimulus_reader.proofs.StimulusWords.{front_none, front_parts}
+use Rattle.stimulus_reader.proofs.words.next_word.Goals as goal
 
 pub returns-in_err-start-clause-words : goal.returns-in_err-start-clause-words
 returns-in_err-start-clause-words c = rw c.from_residual.ensures (front_none c.args.text.now (sym c.word_start.ensures ∙ c.in_err-start.was))

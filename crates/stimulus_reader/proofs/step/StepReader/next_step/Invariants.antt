@@ -1,7 +1,7 @@
 use Rattle.std.proofs.Common.{◌≡◌, ◌-◌, ◌≤◌}
-use Rattle.lib_create.specs.StimulusSource.{LeftSo}
-use Rattle.lib_create.specs.StimulusSteps.{script_left}
-use Rattle.lib_create.proofs.step.StepReader.next_step.Given as goal
+use Rattle.stimulus_reader.specs.StimulusSource.{LeftSo}
+use Rattle.stimulus_reader.specs.StimulusSteps.{script_left}
+use Rattle.stimulus_reader.proofs.step.StepReader.next_step.Given as goal
 
 abbrev pub invariant-lines : goal.invariant-lines
 invariant-lines g l = record {

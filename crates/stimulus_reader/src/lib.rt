@@ -1,0 +1,14 @@
+//! The steps of a stimulus, read from a source one after another.
+#![tactic(auto)]
+
+mod found;
+mod line;
+pub mod reason;
+mod setting;
+pub mod step;
+#[cfg(test)]
+mod stimulus_tests;
+mod words;
+
+pub use reason::Reason;
+pub use step::{StepFault, StepKind, StepReader};
