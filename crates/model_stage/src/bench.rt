@@ -1,12 +1,11 @@
 //! A design that is played: it is set from outside, step by step, and shows its outputs.
 
-ghost use Rattle.std.specs.Prelude.{◌≡◌, ◌×◌, ℕ, ◌+◌, ◌<◌, ◌≤◌, List, Some, length, slice_index};
+ghost use Rattle.std.specs.Prelude.{◌≡◌, ℕ, ◌+◌, ◌<◌, ◌≤◌, length};
 ghost use Rattle.bit_ops.specs.Lists.{words, widths};
 ghost use Rattle.net_ir.specs.declared.design.Spec.{Spec};
 ghost use Rattle.net_ir.specs.Face.{ports_of};
 ghost use Rattle.net_ir.specs.Run.{State};
-ghost use Rattle.net_ir.specs.Solution.{Solves};
-ghost use Rattle.model_stage.specs.Bench.{input_widths, clock_count, output_places, TakesInputs, TakesLevels, level_words, IsShown};
+ghost use Rattle.model_stage.specs.Bench.{input_widths, clock_count, output_places, level_words, TakesInputs, TakesLevels, IsShown};
 
 use bit_ops::Bits;
 
