@@ -2,7 +2,7 @@
 use Rattle.std.specs.Prelude.{ℕ, Bool, true, ◌==◌, List, [], ◌∷◌, codes, Option, None, Some, Result, Ok, Err, if◌then◌else◌}
 use Rattle.std.specs.List.{find}
 use Rattle.std.specs.Str.{bytes_eq}
-use Rattle.lib_create.specs.Spelling.{is_free_name}
+use Rattle.sv_base.specs.Spelling.{is_free_name}
 
 -- `sim STIM TOP FILE`: the names of the stimulus file, of the top module and of the source file
 pub record Sim : Type 0 where

@@ -1,7 +1,10 @@
 -- The first grammar: which module a source text spells.
-use Rattle.std.specs.Prelude.{◌≡◌, ℕ, ◌+◌, ◌<◌, ◌≤◌, Bool, true, false, ◌==◌, ◌||◌, List, [], ◌∷◌, ◌++◌, length, count_by, codes, IsTrue, ◌⊎◌}
-use Rattle.std.specs.List.{flat_map, list_all}
-use Rattle.lib_create.specs.Spelling.{begins_name, continues_name, is_name, is_reserved}
+use Rattle.std.specs.Prelude.{◌≡◌, ℕ, zero, suc, ◌+◌, ◌<◌, ◌≤◌, nat_le, Bool, true, false, ◌==◌, ◌&&◌, ◌||◌, List, [], ◌∷◌, ◌++◌, length, count_by, codes, IsTrue, ◌⊎◌, if◌then◌else◌}
+use Rattle.std.specs.List.{AllByRecursion, flat_map, list_all}
+use Rattle.sv_base.specs.Spelling.{begins_name, continues_name, is_name, is_reserved}
+use Rattle.sv_base.specs.declared.kind.Kind.TheVariants.{Unexpected}
+use Rattle.sv_base.specs.declared.refusal.Place.{Place}
+use Rattle.sv_base.specs.declared.refusal.Refusal.{Refusal}
 use Rattle.lib_create.specs.declared.token.Token.{Token}
 use Rattle.lib_create.specs.declared.tree.Direction.{Direction}
 use Rattle.lib_create.specs.declared.tree.Direction.TheVariants.{In, Out}
@@ -12,6 +15,11 @@ use Rattle.lib_create.specs.declared.tree.Expression.{Expression}
 use Rattle.lib_create.specs.declared.tree.Expression.TheVariants.{Single, Pair}
 use Rattle.lib_create.specs.declared.tree.PortDeclaration.{PortDeclaration}
 use Rattle.lib_create.specs.declared.tree.Assignment.{Assignment}
+use Rattle.lib_create.specs.declared.tree.Piece.{Piece}
+use Rattle.lib_create.specs.declared.tree.Piece.TheVariants as piece
+use Rattle.lib_create.specs.declared.tree.Process.{Process}
+use Rattle.lib_create.specs.declared.tree.Item.{Item}
+use Rattle.lib_create.specs.declared.tree.Item.TheVariants as item
 use Rattle.lib_create.specs.declared.tree.Module.{Module}
 
 -- ---- tokens
@@ -35,9 +43,14 @@ IsSingle [] = ⊥
 IsSingle (b ∷ []) = (begins_name b ≡ false) × (is_blank b ≡ false)
 IsSingle (b ∷ c ∷ bytes) = ⊥
 
--- the text of a token, before this rest: a whole name, or a byte by itself
+-- `<=` is one sign, so that `<` stands by itself only where no `=` follows it
+abbrev pub EndsSign : List ℕ → List ℕ → Type 0
+EndsSign text [] = Unit {0}
+EndsSign text (b ∷ bytes) = text ≡ codes "<" → b ≡ 61 → ⊥
+
+-- the text of a token, before this rest: a whole name, the sign `<=`, or a byte by itself
 abbrev pub IsTokenText : List ℕ → List ℕ → Type 0
-IsTokenText text rest = (IsTrue (is_name text) × EndsName rest) ⊎ IsSingle text
+IsTokenText text rest = (IsTrue (is_name text) × EndsName rest) ⊎ ((text ≡ codes "<=") ⊎ (IsSingle text × EndsSign text rest))
 
 -- The text of a file from this line on is cut into these tokens: before each and after the last stand blanks alone, and each
 -- has the line on which it stands.
@@ -92,6 +105,45 @@ expression_slots (Pair first operator second) = operand_slots first ++ Text (sig
 abbrev pub assignment_slots : Assignment → List Slot
 assignment_slots a = Text (codes "assign") ∷ Identifier a.target ∷ Text (codes "=") ∷ expression_slots a.value ++ Text (codes ";") ∷ []
 
+-- id "<=" expr ";", or the word that begins or ends a block
+abbrev pub piece_slots : Piece → List Slot
+piece_slots piece.Begin = Text (codes "begin") ∷ []
+piece_slots piece.End = Text (codes "end") ∷ []
+piece_slots (piece.Assign a) = Identifier a.target ∷ Text (codes "<=") ∷ expression_slots a.value ++ Text (codes ";") ∷ []
+
+-- whether a list has no item
+abbrev pub is_empty : {X : Type 0} → List X → Bool
+is_empty [] = true
+is_empty (x ∷ xs) = false
+
+-- Where so many blocks are open, these pieces finish one statement and nothing more:
+-- nb = id "<=" expr ";" | "begin" { nb } "end".
+abbrev pub finishes : ℕ → List Piece → Bool
+finishes open [] = false
+finishes zero (piece.Assign a ∷ pieces) = is_empty pieces
+finishes (suc n) (piece.Assign a ∷ pieces) = finishes (suc n) pieces
+finishes open (piece.Begin ∷ pieces) = finishes (suc open) pieces
+finishes zero (piece.End ∷ pieces) = false
+finishes (suc zero) (piece.End ∷ pieces) = is_empty pieces
+finishes (suc (suc n)) (piece.End ∷ pieces) = finishes (suc n) pieces
+
+-- "always_ff" "@" "(" "posedge" id ")" nb
+abbrev pub process_slots : Process → List Slot
+process_slots p =
+    Text (codes "always_ff") ∷ Text (codes "@") ∷ Text (codes "(") ∷ Text (codes "posedge") ∷ Identifier p.clock ∷ Text (codes ")") ∷ flat_map piece_slots p.body
+
+-- item = "assign" id "=" expr ";" | "logic" id ";" | "always_ff" "@" "(" "posedge" id ")" nb
+abbrev pub item_slots : Item → List Slot
+item_slots (item.Assign a) = assignment_slots a
+item_slots (item.Declare name) = Text (codes "logic") ∷ Identifier name ∷ Text (codes ";") ∷ []
+item_slots (item.Process p) = process_slots p
+
+-- the statement of a process is one
+abbrev pub IsFinished : Item → Type 0
+IsFinished (item.Assign a) = Unit {0}
+IsFinished (item.Declare name) = Unit {0}
+IsFinished (item.Process p) = IsTrue (finishes 0 p.body)
+
 abbrev pub direction_text : Direction → List ℕ
 direction_text In = codes "input"
 direction_text Out = codes "output"
@@ -106,14 +158,65 @@ port_list_slots [] = []
 port_list_slots (p ∷ []) = port_slots p
 port_list_slots (p ∷ q ∷ ports) = port_slots p ++ Text (codes ",") ∷ port_list_slots (q ∷ ports)
 
--- module = "module" id "(" port { "," port } ")" ";" { "assign" id "=" expr ";" } "endmodule"
+-- module = "module" id "(" port { "," port } ")" ";" { item } "endmodule"
 abbrev pub module_slots : Module → List Slot
 module_slots m =
-    Text (codes "module") ∷ Identifier m.name ∷ Text (codes "(") ∷ port_list_slots m.ports ++ Text (codes ")") ∷ Text (codes ";") ∷ flat_map assignment_slots m.assignments ++ Text (codes "endmodule") ∷ []
+    Text (codes "module") ∷ Identifier m.name ∷ Text (codes "(") ∷ port_list_slots m.ports ++ Text (codes ")") ∷ Text (codes ";") ∷ flat_map item_slots m.items ++ Text (codes "endmodule") ∷ []
+
+-- the tokens are those of the module
+pub record AreTokensOf (m : Module) (tokens : List Token) : Type 0 where
+  pub ports : 0 < length m.ports
+  pub finished : AllByRecursion IsFinished m.items
+  pub fill : Fill (module_slots m) tokens
 
 -- the bytes of a file spell the module
 pub record Spells (file : ℕ) (bytes : List ℕ) (m : Module) : Type 0 where
   pub tokens : List Token
   pub cut : IsCut file 1 bytes tokens
-  pub ports : 0 < length m.ports
-  pub fill : Fill (module_slots m) tokens
+  pub are : AreTokensOf m tokens
+
+-- ---- what is no module
+
+-- some module begins with these tokens
+abbrev pub Begins : List Token → Type 0
+Begins front = (m : Module) × (tail : List Token) × AreTokensOf m (front ++ tail)
+
+-- the name by which a token is refused: its text where that is one printable byte or a name of at most 255 bytes
+abbrev pub is_printable : List ℕ → Bool
+is_printable [] = false
+is_printable (b ∷ []) = nat_le 33 b && nat_le b 126
+is_printable (b ∷ c ∷ bytes) = false
+
+abbrev pub refused_name : List ℕ → List ℕ
+refused_name text = if is_printable text || (is_name text && nat_le (length text) 255) then text else []
+
+abbrev pub unexpected : Place → List ℕ → Refusal
+unexpected place name = record { kind = Unexpected; place = place; name = name }
+
+-- the place at the end of tokens: that of the last, or line 0 where there is none
+abbrev pub end_place : ℕ → List Token → Place
+end_place file [] = record { file = file; line = 0 }
+end_place file (token ∷ []) = token.place
+end_place file (token ∷ next ∷ tokens) = end_place file (next ∷ tokens)
+
+-- the first token after which no module goes on
+pub record IsRefusedToken (tokens : List Token) (refusal : Refusal) : Type 0 where
+  pub front : List Token
+  pub token : Token
+  pub rest : List Token
+  pub parts : tokens ≡ front ++ token ∷ rest
+  pub so_far : Begins front
+  pub no_more : Begins (front ++ token ∷ []) → ⊥
+  pub told : refusal ≡ unexpected token.place (refused_name token.text)
+
+-- more tokens are due at the end
+pub record IsRefusedEnd (file : ℕ) (tokens : List Token) (refusal : Refusal) : Type 0 where
+  pub so_far : Begins tokens
+  pub no_module : (m : Module) → AreTokensOf m tokens → ⊥
+  pub told : refusal ≡ unexpected (end_place file tokens) []
+
+-- the bytes of a file spell no module, and this is their refusal
+pub record IsOutside (file : ℕ) (bytes : List ℕ) (refusal : Refusal) : Type 0 where
+  pub tokens : List Token
+  pub cut : IsCut file 1 bytes tokens
+  pub refused : IsRefusedToken tokens refusal ⊎ IsRefusedEnd file tokens refusal

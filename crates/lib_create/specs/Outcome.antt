@@ -1,18 +1,19 @@
 -- What the program owes for words and files: a status, what it writes on standard output, and what on standard error.
-use Rattle.std.specs.Prelude.{◌≡◌, ℕ, zero, suc, ◌≤◌, List, [], ◌∷◌, ◌++◌, length, codes, Option, None, Some, Result, Ok, Err, ◌⊎◌}
+use Rattle.std.specs.Prelude.{◌≡◌, ℕ, zero, suc, ◌<◌, ◌≤◌, List, [], ◌∷◌, ◌++◌, length, codes, Option, None, Some, Result, Ok, Err, ◌⊎◌}
 use Rattle.std.specs.Fmt.{decimal}
 use Rattle.std.specs.FinMap.{get}
 use Rattle.io_edge.specs.File.{Files}
 use Rattle.sv_base.specs.Kind.{text_of}
-use Rattle.sv_base.specs.declared.kind.Kind.TheVariants.{Unsupported}
+use Rattle.sv_base.specs.declared.kind.Kind.TheVariants.{TooMany}
 use Rattle.sv_base.specs.declared.refusal.Refusal.{Refusal}
 use Rattle.net_ir.specs.declared.design.Spec.{Spec}
+use Rattle.net_ir.specs.Face.{ports_of}
 use Rattle.net_ir.specs.Trace.{IsTrace}
 use Rattle.lib_create.specs.declared.tree.Module.{Module}
 use Rattle.lib_create.specs.Command.{Sim, Misuse, Wrong, TooFew, meaning_of}
-use Rattle.lib_create.specs.Grammar.{Spells}
-use Rattle.lib_create.specs.Design.{design_of, IsLegal}
-use Rattle.lib_create.specs.Stimulus.{BadLine, Script, script_of, reason_text}
+use Rattle.lib_create.specs.Grammar.{Spells, IsOutside}
+use Rattle.lib_create.specs.Design.{design_of, IsLegal, IsIllegal}
+use Rattle.stimulus_reader.specs.Stimulus.{BadLine, Script, script_of, reason_text}
 
 -- how a run ends that no call of the outside cuts short
 pub data Verdict : Type 0 where
@@ -66,15 +67,21 @@ source_limit = 1048576
 abbrev pub step_limit : ℕ
 step_limit = 16777215
 
--- the refusal of a source that is no plain design of the first grammar
-abbrev pub not_plain : Refusal
-not_plain = record { kind = Unsupported; place = record { file = 0; line = 0 }; name = codes "plain" }
+-- the refusal of a source above its limit
+abbrev pub source_too_long : Refusal
+source_too_long = record { kind = TooMany; place = record { file = 1; line = 1 }; name = codes "file" }
 
--- the bytes of the source spell a module that is a plain design with this top
+-- the bytes of the source spell a module that is a legal design of this top
 pub record IsSource (top bytes : List ℕ) (m : Module) : Type 0 where
   pub short : length bytes ≤ source_limit
   pub spells : Spells 1 bytes m
   pub legal : IsLegal top m
+
+-- why they don't: they are too many, no module, or one that is no legal design of this top
+pub data IsRefused (top bytes : List ℕ) (refusal : Refusal) : Type 0 where
+  TooLong : (long : source_limit < length bytes) (told : refusal ≡ source_too_long) → IsRefused top bytes refusal
+  NoModule : (short : length bytes ≤ source_limit) (outside : IsOutside 1 bytes refusal) → IsRefused top bytes refusal
+  NoDesign : (short : length bytes ≤ source_limit) (m : Module) (spells : Spells 1 bytes m) (illegal : IsIllegal top m refusal) → IsRefused top bytes refusal
 
 -- how the run of a design ends, and its trace, by the script of its stimulus
 abbrev pub verdict_of_bad : Option BadLine → Verdict
@@ -87,14 +94,14 @@ Plays spec script verdict trace = (verdict ≡ verdict_of_bad script.bad) × IsT
 -- the stimulus is not there: the trace has no step but step 0
 abbrev pub EndsWithStimulus : Spec → Option (List ℕ) → Verdict → List ℕ → Type 0
 EndsWithStimulus spec None verdict trace = (verdict ≡ StimulusAbsent) × IsTrace spec [] trace
-EndsWithStimulus spec (Some bytes) verdict trace = Plays spec (script_of spec.vars step_limit bytes) verdict trace
+EndsWithStimulus spec (Some bytes) verdict trace = Plays spec (script_of (ports_of spec) step_limit bytes) verdict trace
 
--- the source is one module that is a plain design, or it is refused
+-- the source is a module that is a legal design, or it is refused
 abbrev pub EndsWithSource : Files → Sim → Option (List ℕ) → Verdict → List ℕ → Type 0
 EndsWithSource files sim None verdict trace = (verdict ≡ SourceAbsent sim.file) × (trace ≡ [])
 EndsWithSource files sim (Some bytes) verdict trace =
     ((m : Module) × IsSource sim.top bytes m × EndsWithStimulus (design_of m) (get files sim.stimulus) verdict trace)
-    ⊎ (((m : Module) → IsSource sim.top bytes m → ⊥) × (verdict ≡ SourceRefused sim.file not_plain) × (trace ≡ []))
+    ⊎ ((refusal : Refusal) × IsRefused sim.top bytes refusal × (verdict ≡ SourceRefused sim.file refusal) × (trace ≡ []))
 
 -- the words are the command's, or they are refused
 abbrev pub EndsWithWords : Files → Result Sim Misuse → Verdict → List ℕ → Type 0

@@ -1,7 +1,7 @@
 -- The token at the front of a text.
 use Rattle.std.specs.Prelude.{◌≡◌, ℕ, ◌+◌, List, [], ◌∷◌, ◌++◌, IsTrue, if◌then◌else◌}
 use Rattle.std.specs.List.{list_all, prefix_len}
-use Rattle.lib_create.specs.Spelling.{begins_name, continues_name}
+use Rattle.sv_base.specs.Spelling.{begins_name, continues_name}
 use Rattle.lib_create.specs.declared.token.Token.{Token}
 use Rattle.lib_create.specs.Grammar.{is_blank, line_ends, IsTokenText}
 

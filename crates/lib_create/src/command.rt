@@ -6,7 +6,7 @@ ghost use Rattle.std.specs.String.{string_bytes};
 ghost use Rattle.lib_create.specs.Command.{is_option, sim_of, command_of, meaning_of};
 ghost use Rattle.lib_create.specs.CommandWords.{said};
 
-use crate::spelling::is_free_name;
+use sv_base::spelling::is_free_name;
 
 /// `sim STIM TOP FILE`: the stimulus file, the top module and the source file.
 #[derive(Clone, Copy, Debug)]

@@ -4,26 +4,28 @@ ghost use Rattle.std.specs.Prelude.{◌≡◌, ◌≤◌, length, Some, IfOk, If
 ghost use Rattle.std.specs.FinMap.{get};
 ghost use Rattle.io_edge.specs.Fault.{Rose};
 ghost use Rattle.lib_create.specs.declared.stop.Stop.TheVariants.{NoMemory};
-ghost use Rattle.lib_create.specs.Compiling.{IsCompiled, IsPlainDesign, IsReadCause};
-ghost use Rattle.lib_create.specs.Outcome.{source_limit};
+ghost use Rattle.lib_create.specs.Compiling.{IsCompiled, IsFit};
+ghost use Rattle.lib_create.specs.Running.{IsReadCause};
+ghost use Rattle.lib_create.specs.Outcome.{source_limit, source_too_long};
 
 use crate::command::Sim;
 use crate::elaboration::elaborate;
-use crate::law;
+use crate::fault::SourceFault;
 use crate::load::{Loaded, load};
 use crate::source::read_source;
 use crate::stop::Stop;
 use io_edge::Folder;
 use net_ir::Spec;
-use std::alloc::Global;
+use std::alloc::{AllocError, Global};
+use sv_base::{Kind, Name, Place, Refusal};
 
 /// What a source file is.
 #[derive(Drop)]
 pub enum Compiled {
     /// It isn't there.
     Absent,
-    /// It is no plain design of the top that is asked for.
-    Refused,
+    /// It is no legal design of the top that is asked for.
+    Refused(Refusal),
     Design(Spec),
 }
 
@@ -31,10 +33,10 @@ pub enum Compiled {
 const SOURCE_LIMIT: usize = 1_048_576;
 
 /// What the source file of a command is. Takes time in the size of the file times the logarithm of the number of
-/// ports.
+/// names.
 pub fn compile<D: Folder>(alloc: Global, sim: Sim<'_>, folder: &mut D) -> Result<Compiled, Stop>
     ensures compiled { IfOk result (λ compiled. IfSome (D.content folder.old) (λ files. IsCompiled (get files sim.entry.file.now) sim.entry.top.now compiled)) }
-    ensures plain { IfOk result IsPlainDesign }
+    ensures fit { IfOk result IsFit }
     ensures cause { IfErr result (λ stop. IsReadCause stop (D.read_faults folder.old) (D.read_faults folder.new)) }
     ensures unchanged { D.content folder.new ≡ D.content folder.old }
     ensures later { D.read_faults folder.old ≤ D.read_faults folder.new }
@@ -43,24 +45,39 @@ pub fn compile<D: Folder>(alloc: Global, sim: Sim<'_>, folder: &mut D) -> Result
     match load(alloc, folder, sim.file, SOURCE_LIMIT) {
         Err(stop) => Err(stop),
         Ok(Loaded::Absent) => Ok(Compiled::Absent),
-        Ok(Loaded::TooLong) => Ok(Compiled::Refused),
+        Ok(Loaded::TooLong) => match too_long(alloc) {
+            Err(_) => Err(Stop::NoMemory),
+            Ok(refusal) => Ok(Compiled::Refused(refusal)),
+        },
         Ok(Loaded::Bytes(bytes)) => compile_bytes(alloc, sim.top, bytes.as_slice()),
     }
+}
+
+/// The refusal of a source above its limit.
+fn too_long(alloc: Global) -> Result<Refusal, AllocError>
+    ensures { IfOk result (λ refusal. refusal ≡ source_too_long) }
+{
+    Ok(Refusal {
+        kind: Kind::TooMany,
+        place: Place { file: 1, line: 1 },
+        name: Name::of(alloc, b"file")?,
+    })
 }
 
 /// What the bytes of a source are.
 fn compile_bytes(alloc: Global, top: &str, bytes: &[u8]) -> Result<Compiled, Stop>
     requires short { length bytes.now ≤ source_limit }
     ensures compiled { IfOk result (λ compiled. IsCompiled (Some bytes.now) top.now compiled) }
-    ensures plain { IfOk result IsPlainDesign }
+    ensures fit { IfOk result IsFit }
     ensures memory { IfErr result (λ stop. stop ≡ NoMemory) }
 {
-    law::one_module();
-    match read_source(alloc, 1, bytes)? {
-        None => Ok(Compiled::Refused),
-        Some(module) => match elaborate(alloc, top.as_bytes(), &module)? {
-            None => Ok(Compiled::Refused),
-            Some(spec) => Ok(Compiled::Design(spec)),
+    match read_source(alloc, 1, bytes) {
+        Err(SourceFault::NoMemory) => Err(Stop::NoMemory),
+        Err(SourceFault::Refused(refusal)) => Ok(Compiled::Refused(refusal)),
+        Ok(module) => match elaborate(alloc, top.as_bytes(), &module) {
+            Err(SourceFault::NoMemory) => Err(Stop::NoMemory),
+            Err(SourceFault::Refused(refusal)) => Ok(Compiled::Refused(refusal)),
+            Ok(spec) => Ok(Compiled::Design(spec)),
         },
     }
 }

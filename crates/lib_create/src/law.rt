@@ -3,7 +3,8 @@
 ghost use Rattle.std.specs.Prelude.{◌≡◌, ℕ, List};
 ghost use Rattle.lib_create.specs.declared.token.Token.{Token};
 ghost use Rattle.lib_create.specs.declared.tree.Module.{Module};
-ghost use Rattle.lib_create.specs.Grammar.{IsCut, Spells};
+ghost use Rattle.lib_create.specs.Grammar.{IsCut, Spells, IsOutside};
+ghost use Rattle.sv_base.specs.declared.refusal.Refusal.{Refusal};
 ghost use Rattle.io_edge.specs.File.{Files};
 ghost use Rattle.lib_create.specs.Outcome.{Verdict, Ends, Outcome, IsOutcome};
 
@@ -17,12 +18,19 @@ pub fn one_module()
     ensures { (file : ℕ) (bytes : List ℕ) (first second : Module) → Spells file bytes first → Spells file bytes second → first ≡ second }
 {}
 
+/// Bytes that spell a module are not refused as none, and bytes that spell none have one refusal.
+pub fn one_outside()
+    ensures once { (file : ℕ) (bytes : List ℕ) (first second : Refusal) → IsOutside file bytes first → IsOutside file bytes second → first ≡ second }
+    ensures apart { (file : ℕ) (bytes : List ℕ) (m : Module) (refusal : Refusal) → Spells file bytes m → IsOutside file bytes refusal → ⊥ }
+{}
+
 /// A run over files and words ends in one way, with one trace.
 pub fn one_end()
     ensures { (files : Files) (words : List (List ℕ)) (first second : Verdict) (trace other : List ℕ) → Ends files words first trace → Ends files words second other → (first ≡ second) × (trace ≡ other) }
 {
     net_ir::law::one_trace();
     one_module();
+    one_outside();
 }
 
 /// Two outcomes of the same words over the same files are one.

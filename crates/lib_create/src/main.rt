@@ -5,34 +5,22 @@ mod bench;
 mod command;
 mod compile;
 mod elaboration;
-mod found;
+mod fault;
 mod law;
-mod line;
 mod load;
-mod order;
-mod parser;
-mod play;
-mod reason;
+mod playing;
 mod run;
 #[cfg(test)]
 mod run_tests;
-mod session;
-mod setting;
 mod simulate;
 mod source;
-mod spelling;
-mod step;
-#[cfg(test)]
-mod stimulus_tests;
 mod stop;
 mod token;
-mod trace;
 mod tree;
 mod verdict;
-mod words;
 
 use io_edge::{DiskFolder, StreamSink};
-use order::Order;
+use model_stage::Order;
 use run::run_words;
 use std::process::ExitCode;
 use std::{env, io};

@@ -4,18 +4,18 @@ ghost use Rattle.std.specs.Prelude.{◌≡◌, ◌≤◌, ◌⊎◌, map, IfSome
 ghost use Rattle.std.specs.String.{string_bytes};
 ghost use Rattle.io_edge.specs.Fault.{Rose};
 ghost use Rattle.io_edge.specs.Told.{Added};
-ghost use Rattle.lib_create.specs.Order.{Picks};
+ghost use Rattle.model_stage.specs.Order.{Picks};
 ghost use Rattle.lib_create.specs.Outcome.{status_of, message_of};
 ghost use Rattle.lib_create.specs.Verdicts.{verdict_seen};
 ghost use Rattle.lib_create.specs.Telling.{ToldAs, stop_status, stop_text};
 ghost use Rattle.lib_create.specs.Answer.{read_fault, write_fault, no_memory, Answered, CutShort, CutMessage, Completed};
 
 use crate::law;
-use crate::order::Order;
 use crate::simulate::simulate;
 use crate::stop::Stop;
 use crate::verdict::{Verdict, message, status};
 use io_edge::{Folder, Sink, offer};
+use model_stage::Order;
 use std::alloc::Global;
 
 /// Does all that the program does, and answers its status: 0 done, 2 the words are refused, 3 the source is, 5 the

@@ -1,11 +1,11 @@
 //! Rows of the program's outcomes: words and files, and the bytes and the status that they give.
 
 ghost use Rattle.std.specs.Prelude.{◌≡◌, ◌<◌};
-ghost use Rattle.lib_create.specs.Order.{Picks};
+ghost use Rattle.model_stage.specs.Order.{Picks};
 
-use crate::order::Order;
 use crate::run::run_words;
 use io_edge::{MemFolder, MemSink};
+use model_stage::Order;
 use std::alloc::{AllocError, AllocGlobal, Global};
 use std::process::Abort;
 use std::test::Fail;

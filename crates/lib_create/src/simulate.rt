@@ -4,19 +4,17 @@ ghost use Rattle.std.specs.Prelude.{◌≡◌, ◌≤◌, ℕ, List, map, IfOk, 
 ghost use Rattle.std.specs.String.{string_bytes};
 ghost use Rattle.io_edge.specs.Told.{Added, AddedFront};
 ghost use Rattle.lib_create.specs.Verdicts.{verdict_seen};
-ghost use Rattle.lib_create.specs.Playing.{IsPlayCause};
+ghost use Rattle.lib_create.specs.Running.{IsPlayCause};
 ghost use Rattle.lib_create.specs.Outcome as outcome;
-ghost use Rattle.lib_create.specs.Outcome.{Ends, not_plain};
+ghost use Rattle.lib_create.specs.Outcome.{Ends};
 
 use crate::command::read_words;
 use crate::compile::{Compiled, compile};
-use crate::law;
-use crate::session::run_design;
+use crate::playing::run_design;
 use crate::stop::Stop;
 use crate::verdict::Verdict;
 use io_edge::{Folder, Sink};
-use std::alloc::{AllocError, Global};
-use sv_base::{Kind, Name, Place, Refusal};
+use std::alloc::Global;
 
 /// Reads the words, compiles the source, plays the stimulus and writes the trace.
 pub fn simulate<'a, D: Folder, K: Sink>(
@@ -35,7 +33,6 @@ pub fn simulate<'a, D: Folder, K: Sink>(
     ensures no_write { D.write_faults folder.new ≡ D.write_faults folder.old }
     ensures out_later { K.faults out.old ≤ K.faults out.new }
 {
-    law::one_module();
     let sim = match read_words(words) {
         Err(misuse) => return Ok(Verdict::Misused(misuse)),
         Ok(sim) => sim,
@@ -43,24 +40,10 @@ pub fn simulate<'a, D: Folder, K: Sink>(
     match compile(alloc, sim, folder) {
         Err(stop) => Err(stop),
         Ok(Compiled::Absent) => Ok(Verdict::SourceAbsent(sim.file)),
-        Ok(Compiled::Refused) => match refused(alloc) {
-            Err(_) => Err(Stop::NoMemory),
-            Ok(refusal) => Ok(Verdict::SourceRefused(sim.file, refusal)),
-        },
-        Ok(Compiled::Design(spec)) => match run_design(alloc, &spec, sim.stimulus, folder, out) {
+        Ok(Compiled::Refused(refusal)) => Ok(Verdict::SourceRefused(sim.file, refusal)),
+        Ok(Compiled::Design(spec)) => match run_design(alloc, spec, sim.stimulus, folder, out) {
             Err(stop) => Err(stop),
             Ok(verdict) => Ok(verdict),
         },
     }
-}
-
-/// The refusal of a source that is no plain design.
-fn refused(alloc: Global) -> Result<Refusal, AllocError>
-    ensures { IfOk result (λ refusal. refusal ≡ not_plain) }
-{
-    Ok(Refusal {
-        kind: Kind::Unsupported,
-        place: Place::NOWHERE,
-        name: Name::of(alloc, b"plain")?,
-    })
 }

@@ -2,12 +2,12 @@
 
 ghost use Rattle.std.specs.Prelude.{◌≡◌, ◌+◌, ◌<◌, ◌≤◌, ◌^◌, length, IsTrue, IfOk, IfSome, IfNone};
 ghost use Rattle.std.specs.List.{list_all, prefix_len};
-ghost use Rattle.lib_create.specs.Spelling.{continues_name};
+ghost use Rattle.sv_base.specs.Spelling.{continues_name};
 ghost use Rattle.lib_create.specs.Grammar.{is_blank, line_ends, IsCut};
 ghost use Rattle.lib_create.specs.Outcome.{source_limit};
 ghost use Rattle.lib_create.specs.TokenReading.{token_len, IsNext};
 
-use crate::spelling::{begins_name, continues_name};
+use sv_base::spelling::{begins_name, continues_name};
 use std::alloc::{AllocError, Global};
 use sv_base::{Name, Place};
 

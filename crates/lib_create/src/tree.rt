@@ -1,4 +1,5 @@
-//! The tree of the first grammar: one module of one-bit ports with continuous assignments.
+//! The tree of the first grammar: one module of one-bit ports and variables, with continuous assignments and clocked
+//! processes.
 
 use crate::token::Token;
 use sv_base::Sequence;
@@ -36,17 +37,41 @@ pub struct PortDeclaration {
     pub name: Token,
 }
 
-/// A continuous assignment (IEEE 1800-2017, 10.3).
+/// A target and its value, of a continuous assignment (10.3) or of a nonblocking one.
 #[derive(Debug, Drop)]
 pub struct Assignment {
     pub target: Token,
     pub value: Expression,
 }
 
-/// A module, its ports and its assignments in the order of the text.
+/// A piece of the statement of a clocked process: a nonblocking assignment (10.4.2), or the beginning or the end of a
+/// block.
+#[derive(Debug, Drop)]
+pub enum Piece {
+    Begin,
+    End,
+    Assign(Assignment),
+}
+
+/// A clocked process (9.2.2.4) at the rising edge of `clock`, and its statement piece by piece.
+#[derive(Debug, Drop)]
+pub struct Process {
+    pub clock: Token,
+    pub body: Sequence<Piece>,
+}
+
+#[derive(Debug, Drop)]
+pub enum Item {
+    Assign(Assignment),
+    /// A variable of one bit that only the module sees (6.8).
+    Declare(Token),
+    Process(Process),
+}
+
+/// A module, its ports and its items in the order of the text.
 #[derive(Debug, Drop)]
 pub struct Module {
     pub name: Token,
     pub ports: Sequence<PortDeclaration>,
-    pub assignments: Sequence<Assignment>,
+    pub items: Sequence<Item>,
 }

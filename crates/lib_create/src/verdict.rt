@@ -2,16 +2,16 @@
 
 ghost use Rattle.std.specs.Prelude.{◌≡◌, ◌++◌, ◌∷◌, [], codes, IfOk, OnOk};
 ghost use Rattle.std.specs.Fmt.{decimal};
-ghost use Rattle.lib_create.specs.Stimulus.{reason_text};
+ghost use Rattle.stimulus_reader.specs.Stimulus.{reason_text};
 ghost use Rattle.lib_create.specs.Outcome.{file_text, name_text, refusal_text, misuse_text, message_of, status_of};
 ghost use Rattle.lib_create.specs.CommandWords.{misuse_seen};
 ghost use Rattle.lib_create.specs.Verdicts.{bad_seen, verdict_seen};
 
 use crate::command::Misuse;
-use crate::reason::Reason;
-use crate::trace::push_decimal;
 use std::alloc::{AllocError, Global};
-use sv_base::{Name, Refusal};
+use stimulus_reader::Reason;
+use sv_base::Refusal;
+use trace_writer::push_decimal;
 
 /// The first bad line of a stimulus, its lines counted from 1, and the word that the message names, empty where it
 /// names none.
@@ -19,7 +19,7 @@ use sv_base::{Name, Refusal};
 pub struct BadLine {
     pub line: u64,
     pub reason: Reason,
-    pub word: Name,
+    pub word: Vec<u8>,
 }
 
 /// How a run ends that no call of the outside cuts short.
@@ -123,12 +123,12 @@ fn push_name(text: &mut Vec<u8>, name: &[u8]) -> Result<(), AllocError>
 
 fn push_bad_line(alloc: Global, text: &mut Vec<u8>, bad: &BadLine) -> Result<(), AllocError>
     ensures { OnOk result (text.new.items ≡ text.old.items
-        ++ (codes "stimulus " ++ decimal bad.now.line ++ codes ": " ++ reason_text bad.now.reason bad.now.word)) }
+        ++ (codes "stimulus " ++ decimal bad.now.line ++ codes ": " ++ reason_text bad.now.reason bad.now.word.items)) }
 {
     text.extend_from_slice(b"stimulus ")?;
     push_decimal(alloc, text, bad.line)?;
     text.extend_from_slice(b": ")?;
-    push_reason(text, bad.reason, bad.word.bytes())
+    push_reason(text, bad.reason, bad.word.as_slice())
 }
 
 fn push_reason(text: &mut Vec<u8>, reason: Reason, word: &[u8]) -> Result<(), AllocError>
@@ -138,6 +138,8 @@ fn push_reason(text: &mut Vec<u8>, reason: Reason, word: &[u8]) -> Result<(), Al
         Reason::NoStep => push_word(text, word, b" is no step"),
         Reason::NoSetting => push_word(text, word, b" is no setting"),
         Reason::NoInput => push_word(text, word, b" is no input"),
+        Reason::IsClock => push_word(text, word, b" is a clock"),
+        Reason::NoClock => push_word(text, word, b" is no clock"),
         Reason::SetTwice => push_word(text, word, b" is set twice"),
         Reason::NoValue => push_word(text, word, b" is no value"),
         Reason::LineTooLong => text.extend_from_slice(b"line too long"),
