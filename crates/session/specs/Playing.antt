@@ -28,8 +28,16 @@ abbrev pub Reaches : Spec → State → List Step → State → Type 0
 Reaches spec from [] to = to ≡ from
 Reaches spec from (step ∷ steps) to = (next : State) × Follows spec from step next × Reaches spec next steps to
 
--- A bench stands behind some first steps of a script: its state is the one that they reach, but for idle inputs. The lines of the
--- steps before the last of them were added, and of the last one's line a front: it was offered.
+-- Of what is due up to the line of the last of some steps, a front was added that has all lines before that one: each line was
+-- offered, and none after it.
+pub record Offered (spec : Spec) (made : List Step) (due : List ℕ) (before after : Option (List ℕ)) : Type 0 where
+  pub count : ℕ
+  pub within : count ≤ length due
+  pub added : Added before after (take count due)
+  pub earlier : (shorter : List Step) (step : Step) (lines : List ℕ) → made ≡ shorter ++ step ∷ [] → IsTrace spec shorter lines → length lines ≤ count
+
+-- A bench stands behind some first steps of a script, the last of which is the last whose line was offered: its state is the one
+-- that they reach, but for idle inputs.
 pub record StandsBehind (spec : Spec) (script : Script) (state : State) (before after : Option (List ℕ)) : Type 0 where
   pub made : List Step
   pub rest : List Step
@@ -37,14 +45,7 @@ pub record StandsBehind (spec : Spec) (script : Script) (state : State) (before 
   pub reached : State
   pub reaches : Reaches spec (start spec) made reached
   pub idle : DifferInIdle spec state reached
-  -- what was due up to the line of the last of them, of which some bytes were added
-  pub due : List ℕ
-  pub trace : IsTrace spec made due
-  pub count : ℕ
-  pub within : count ≤ length due
-  pub added : Added before after (take count due)
-  -- and all that was due before that line
-  pub earlier : (shorter : List Step) (step : Step) (lines : List ℕ) → made ≡ shorter ++ step ∷ [] → IsTrace spec shorter lines → length lines ≤ count
+  pub offered : (due : List ℕ) → IsTrace spec made due → Offered spec made due before after
 
 -- a bad line with this word
 abbrev pub bad_line : ℕ → Reason → List ℕ → BadLine

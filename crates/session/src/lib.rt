@@ -2,7 +2,7 @@
 #![tactic(auto)]
 
 pub mod fault;
-pub mod play;
+pub mod playing;
 
 pub use fault::PlayFault;
-pub use play::play;
+pub use playing::play;
