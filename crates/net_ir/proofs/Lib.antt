@@ -1,5 +1,7 @@
 pub mod Terms
 pub mod Layers
+pub mod Elements
+pub mod Statements
 pub mod Order
 pub mod Unique
 pub mod Passes
