@@ -6,4 +6,5 @@ pub mod Order
 pub mod Unique
 pub mod Passes
 pub mod Solved
+pub mod Writes
 pub mod Turns

@@ -4,7 +4,6 @@ use Rattle.std.specs.Prelude.{slice_index, slice_set}
 use Rattle.std.specs.List.{AllByRecursion}
 use Rattle.std.proofs.lemmas.List.{length-map, take_more, take_more_set}
 use Rattle.std.proofs.Common.{take_all, add-one, drop-cons}
-use Rattle.sv_base.specs.declared.refusal.Place.{Place}
 use Rattle.net_ir.specs.declared.term.Term.{Term}
 use Rattle.net_ir.specs.declared.design.Role.{Role}
 use Rattle.net_ir.specs.declared.design.Role.TheVariants.{Input, Output, Inner}
@@ -13,12 +12,12 @@ use Rattle.net_ir.specs.declared.design.Var.{Var}
 use Rattle.net_ir.specs.declared.design.Target.{Target}
 use Rattle.net_ir.specs.declared.design.Target.TheVariants.{Of}
 use Rattle.net_ir.specs.declared.design.Driver.{Driver}
-use Rattle.net_ir.specs.declared.design.Driver.TheVariants.{Assign}
 use Rattle.bit_ops.specs.Lists.{words, widths}
 use Rattle.net_ir.specs.Value.{widths_of, size}
 use Rattle.net_ir.specs.Drive.{target_var}
-use Rattle.net_ir.specs.Plain.{IsWhole, IsLawful}
-use Rattle.net_ir.specs.Pass.{IsStorable, store, effect, run, source_at, source_of, sources_of}
+use Rattle.net_ir.specs.Statement.{write_to}
+use Rattle.net_ir.specs.Plain.{IsWholeTo}
+use Rattle.net_ir.specs.Pass.{IsStorable, store, store_all, effect, run, source_at, source_of, sources_of}
 
 -- ---- a store
 
@@ -55,13 +54,14 @@ stored_words values target var b is =
     map-set (λ (x : Bits). x.word) values var b ∙ sym (store_at target var b.word (words values) is)
 
 -- a whole assignment stores a value of its target's width
-pub whole_storable : (ws : List ℕ) (target : Target) (value : Term) (at : Place) (width : ℕ) → IsWhole ws (Assign target value at) → width ≡ size ws value → IsStorable ws target width
-whole_storable ws (Of None name place) value at width whole is = whole
-whole_storable ws (Of (Some var) name place) value at width whole is = (whole.there, is ∙ whole.width)
+pub whole_storable : (ws : List ℕ) (target : Target) (value : Term) (width : ℕ) → IsWholeTo ws target value → width ≡ size ws value → IsStorable ws target width
+whole_storable ws (Of None name place) value width whole is = whole
+whole_storable ws (Of (Some var) name place) value width whole is = (whole.there, is ∙ whole.width)
 
-pub whole_lawful : (ws : List ℕ) (target : Target) (value : Term) (at : Place) → IsWhole ws (Assign target value at) → IsLawful ws value
-whole_lawful ws (Of None name place) value at whole = absurd whole
-whole_lawful ws (Of (Some var) name place) value at whole = whole.lawful
+-- what is stored is what an assignment to the target writes
+pub store_writes : (target : Target) (word : ℕ) (u : List ℕ) → store target word u ≡ store_all (write_to target word) u
+store_writes (Of None name place) word u = refl
+store_writes (Of (Some var) name place) word u = refl
 
 -- ---- the loop over the drivers
 
