@@ -7,4 +7,6 @@ pub mod Unique
 pub mod Passes
 pub mod Solved
 pub mod Writes
+pub mod LawfulReads
+pub mod Idle
 pub mod Turns

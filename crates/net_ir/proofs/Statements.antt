@@ -44,13 +44,13 @@ targets_assign blocking target value =
     fold_out-Stmt (List Target) targets_of_layer (Assign blocking target value)
     ∙ ap (λ x. targets_of_layer (map-Stmt Stmt (List Target) targets_of x)) (outs-Assign blocking target value)
 
-reads_block : (parts : List Stmt) → statement_reads (Block parts) ≡ flat_map statement_reads parts
+pub reads_block : (parts : List Stmt) → statement_reads (Block parts) ≡ flat_map statement_reads parts
 reads_block parts =
     fold_out-Stmt (List ℕ) statement_reads_of_layer (Block parts)
     ∙ ap (λ x. statement_reads_of_layer (map-Stmt Stmt (List ℕ) statement_reads x)) (outs-Block parts)
     ∙ flat_map-map (λ (part : List ℕ). part) statement_reads parts
 
-reads_assign : (blocking : Bool) (target : Target) (value : Term) → statement_reads (Assign blocking target value) ≡ reads_of value
+pub reads_assign : (blocking : Bool) (target : Target) (value : Term) → statement_reads (Assign blocking target value) ≡ reads_of value
 reads_assign blocking target value =
     fold_out-Stmt (List ℕ) statement_reads_of_layer (Assign blocking target value)
     ∙ ap (λ x. statement_reads_of_layer (map-Stmt Stmt (List ℕ) statement_reads x)) (outs-Assign blocking target value)
@@ -79,7 +79,7 @@ pub every_assign : (Q : Stmt-F Stmt → Type 0) (blocking : Bool) (target : Targ
 every_assign Q blocking target value every = subst Q (outs-Assign blocking target value) (every_here-Stmt Q (Assign blocking target value) every)
 
 -- what holds of each assignment with that layer, and of a block where it holds of its parts, holds of each such statement
-every_by_layers : (Q : Stmt-F Stmt → Type 0) (P : Stmt → Type 0) → ((parts : List Stmt) → AllByRecursion P parts → P (Block parts)) → ((blocking : Bool) (target : Target) (value : Term) → Q (layer.Assign blocking target value) → P (Assign blocking target value)) → (s : Stmt) → every-Stmt Q s → P s
+pub every_by_layers : (Q : Stmt-F Stmt → Type 0) (P : Stmt → Type 0) → ((parts : List Stmt) → AllByRecursion P parts → P (Block parts)) → ((blocking : Bool) (target : Target) (value : Term) → Q (layer.Assign blocking target value) → P (Assign blocking target value)) → (s : Stmt) → every-Stmt Q s → P s
 every_by_layers Q P block assign =
     by_layers (λ s. every-Stmt Q s → P s)
     (λ parts each every. block parts (all_both (λ s. every-Stmt Q s → P s) (every-Stmt Q) P (λ s f e. f e) parts each (every_part Q parts every)))
