@@ -1,11 +1,11 @@
 -- Idle inputs are idle: nothing depends on their levels.
-use Rattle.std.proofs.Common.{◌≡◌, ℕ, zero, suc, ◌<◌, ◌≤◌, ◌^◌, ◌+◌, List, [], ◌∷◌, ◌++◌, length, get_or, Bool, true, false, refl, sym, ◌∙◌, ap, subst, arith, Option, None, Some, inl, inr}
-use Rattle.std.specs.Prelude.{slice_index, slice_get, ◌==◌, ◌||◌, ◌&&◌, nat_lt, ◌⊎◌, if◌then◌else◌}
-use Rattle.std.specs.List.{AllByRecursion, flat_map, list_any}
+use Rattle.std.proofs.Common.{◌≡◌, ℕ, zero, suc, ◌<◌, ◌≤◌, ◌^◌, ◌+◌, List, [], ◌∷◌, length, get_or, Bool, true, false, refl, sym, ◌∙◌, ap, subst, arith, Option, None, Some, inl, inr}
+use Rattle.std.specs.Prelude.{slice_index, slice_get, ◌==◌, ◌⊎◌, if◌then◌else◌}
+use Rattle.std.specs.List.{AllByRecursion, list_any}
 use Rattle.std.specs.Int.{bit_at}
 use Rattle.std.proofs.lemmas.Bool.{or_left, or_right}
 use Rattle.std.proofs.lemmas.List.{get_or_past}
-use Rattle.std.proofs.lemmas.Option.{slice_get_cases, slice_get_within}
+use Rattle.std.proofs.lemmas.Option.{slice_get_cases}
 use Rattle.sv_base.specs.declared.face.Class.{Class}
 use Rattle.sv_base.specs.declared.face.Class.TheVariants as class
 use Rattle.sv_base.specs.declared.face.Class.TheVariants.{Idle}
@@ -14,26 +14,24 @@ use Rattle.net_ir.specs.declared.design.Role.TheVariants.{Input, Output, Inner}
 use Rattle.net_ir.specs.declared.design.Var.{Var}
 use Rattle.net_ir.specs.declared.design.Trigger.{Trigger}
 use Rattle.net_ir.specs.declared.design.Target.{Target}
-use Rattle.net_ir.specs.declared.design.Target.TheVariants.{Of}
-use Rattle.net_ir.specs.declared.statement.Stmt.{Stmt}
 use Rattle.net_ir.specs.declared.design.Driver.{Driver}
 use Rattle.net_ir.specs.declared.design.Driver.TheVariants.{Assign, Clocked}
 use Rattle.net_ir.specs.declared.design.Spec.{Spec}
 use Rattle.net_ir.specs.Value.{widths_of, val}
-use Rattle.net_ir.specs.Statement.{Write, writes_of, bit_after}
-use Rattle.net_ir.specs.Drive.{gives, holds, writes, driver_reads, driver_clocks, var_list, assigned_bit, writes_bit}
+use Rattle.net_ir.specs.Statement.{writes_of, bit_after}
+use Rattle.net_ir.specs.Drive.{gives, writes, driver_reads, driver_clocks, var_list, assigned_bit, writes_bit}
 use Rattle.net_ir.specs.Face.{stands_in, clocks_of, all_reads, input_class, class_of}
 use Rattle.net_ir.specs.Run.{State, edge_at, is_edge, occurs, sampled, all_sampled}
 use Rattle.net_ir.specs.Solution.{Solves, IsDriven, IsHeld}
 use Rattle.net_ir.specs.Stepping.{Samples}
-use Rattle.net_ir.specs.Plain.{IsPlain, IsWhole, IsInput, SparesInputs, IsPlainClock, IsPlainTrigger, HasPlainClocks}
+use Rattle.net_ir.specs.Plain.{IsPlain, IsWhole, IsInput, SparesInputs, IsPlainTrigger, HasPlainClocks}
 use Rattle.net_ir.specs.Idle.{AgreeButIdle, DifferInIdle}
 use Rattle.net_ir.proofs.Terms.{AgreeAt, operand_is_local}
 use Rattle.net_ir.proofs.Elements.{all_from, all_both, each_flat, flat_same, any_same}
 use Rattle.net_ir.proofs.Statements.{writes_are_local}
 use Rattle.net_ir.proofs.Order.{eq_test, held_is_written}
 use Rattle.net_ir.proofs.Unique.{length-widths, var_at}
-use Rattle.net_ir.proofs.LawfulReads.{AreThere, driver_there}
+use Rattle.net_ir.proofs.LawfulReads.{driver_there}
 
 -- ---- what stands in a list
 

@@ -1,5 +1,5 @@
 -- What lawful terms and whole drivers read: variables that are there.
-use Rattle.std.proofs.Common.{◌≡◌, ℕ, ◌<◌, List, [], ◌∷◌, ◌++◌, length, map, Bool, refl, sym, ◌∙◌, ap, subst}
+use Rattle.std.proofs.Common.{◌≡◌, ℕ, ◌<◌, List, [], ◌∷◌, length, map, sym, ◌∙◌, ap, subst}
 use Rattle.std.specs.List.{AllByRecursion, flat_map}
 use Rattle.std.proofs.lemmas.List.Folds.{flat_map-map}
 use Rattle.bit_ops.specs.declared.operation.Op.{Op}
@@ -10,8 +10,7 @@ use Rattle.net_ir.specs.declared.term.Term.TheOpen as layer
 use Rattle.net_ir.specs.declared.term.Term.TheOpen.{Term-F}
 use Rattle.net_ir.specs.declared.term.Term.TheViews.{roll-Term}
 use Rattle.net_ir.specs.declared.term.Term.TheVariants.{rolls-Const, rolls-Read, rolls-Apply, outs-Const, outs-Read, outs-Apply}
-use Rattle.net_ir.specs.declared.term.Term.TheFolds.{map-Term, fold_out-Term, ind-Term, every-Term, every_held-Term}
-use Rattle.net_ir.specs.declared.design.Target.{Target}
+use Rattle.net_ir.specs.declared.term.Term.TheFolds.{map-Term, fold_out-Term, ind-Term, every_held-Term}
 use Rattle.net_ir.specs.declared.statement.Stmt.{Stmt}
 use Rattle.net_ir.specs.declared.statement.Stmt.TheFolds.{every-Stmt}
 use Rattle.net_ir.specs.declared.design.Driver.{Driver}

@@ -94,17 +94,6 @@ target_not_first ws (Of (Some var) name place) x k within clear =
     let hits : ((var == x) && nat_lt k (slice_index ws var)) ≡ true = and_of_true (var == x) (nat_lt k (slice_index ws var)) (eq_test var x same) (lt_test k (slice_index ws var) (subst (λ y. k < slice_index ws y) (sym same) within)) in
     absurd (let clash : true ≡ false = sym hits ∙ clear in cc))
 
--- a target has only bits that the variable has
-target_within : (ws : List ℕ) (target : Target) (x k : ℕ) → slice_index ws x ≤ k → writes_bit ws target x k ≡ false
-target_within ws (Of None name place) x k past = refl
-target_within ws (Of (Some var) name place) x k past = by_test ((var == x) && nat_lt k (slice_index ws var)) refl where
-  by_test : (t : Bool) → ((var == x) && nat_lt k (slice_index ws var)) ≡ t → t ≡ false
-  by_test false is = refl
-  by_test true is =
-      let here : var ≡ x = test_eq var x (front_of_and (var == x) (nat_lt k (slice_index ws var)) is) in
-      let below : k < slice_index ws x = subst (λ y. k < slice_index ws y) here (test_lt k (slice_index ws var) (back_of_and (var == x) (nat_lt k (slice_index ws var)) is)) in
-      absurd (omega arith)
-
 -- so of a list of targets
 targets_none : (ws : List ℕ) (targets : List Target) (x k : ℕ) → ArePositive ws → AllByRecursion (IsWholeTarget ws) targets → list_any (λ target. writes_bit ws target x 0) targets ≡ false → list_any (λ target. writes_bit ws target x k) targets ≡ false
 targets_none ws targets x k positive wholes none =
@@ -112,37 +101,12 @@ targets_none ws targets x k positive wholes none =
     (all_both (IsWholeTarget ws) (λ target. writes_bit ws target x 0 ≡ false) (λ target. writes_bit ws target x k ≡ false)
     (λ target whole clear. target_none ws target x k positive whole clear) targets wholes (each_fails (λ target. writes_bit ws target x 0) targets none))
 
-targets_not_first : (ws : List ℕ) (targets : List Target) (x k : ℕ) → k < slice_index ws x → list_any (λ target. writes_bit ws target x k) targets ≡ false → list_any (λ target. writes_bit ws target x 0) targets ≡ false
-targets_not_first ws targets x k within none =
-    none_passes (λ target. writes_bit ws target x 0) targets
-    (all_from (λ target. writes_bit ws target x k ≡ false) (λ target. writes_bit ws target x 0 ≡ false)
-    (λ target clear. target_not_first ws target x k within clear) targets (each_fails (λ target. writes_bit ws target x k) targets none))
-
-targets_within : (ws : List ℕ) (targets : List Target) (x k : ℕ) → slice_index ws x ≤ k → list_any (λ target. writes_bit ws target x k) targets ≡ false
-targets_within ws [] x k past = refl
-targets_within ws (target ∷ targets) x k past = rw (target_within ws target x k past) (targets_within ws targets x k past)
-
 -- a whole driver that does not write bit 0 of a variable writes no bit of it
 pub writes_none : (ws : List ℕ) (d : Driver) (x k : ℕ) → ArePositive ws → IsWhole ws d → writes ws d x 0 ≡ false → writes ws d x k ≡ false
 writes_none ws (Assign target value at) x k positive whole clear = target_none ws target x k positive (whole_target ws target value whole) clear
 writes_none ws (Clocked triggers body at) x k positive whole clear = targets_none ws (targets_of body) x k positive (whole_targets ws body whole) clear
 
--- one that does not write a bit that the variable has does not write its bit 0
-writes_not_first : (ws : List ℕ) (d : Driver) (x k : ℕ) → k < slice_index ws x → writes ws d x k ≡ false → writes ws d x 0 ≡ false
-writes_not_first ws (Assign target value at) x k within clear = target_not_first ws target x k within clear
-writes_not_first ws (Clocked triggers body at) x k within clear = targets_not_first ws (targets_of body) x k within clear
-
--- a bit that is written is one that the variable has
-pub written_within : (ws : List ℕ) (d : Driver) (x k : ℕ) → writes ws d x k ≡ true → k < slice_index ws x
-written_within ws d x k is = by_case (within_or_past k (slice_index ws x)) where
-  past_is_clear : (d : Driver) → slice_index ws x ≤ k → writes ws d x k ≡ false
-  past_is_clear (Assign target value at) past = target_within ws target x k past
-  past_is_clear (Clocked triggers body at) past = targets_within ws (targets_of body) x k past
-  by_case : (k < slice_index ws x) ⊎ (slice_index ws x ≤ k) → k < slice_index ws x
-  by_case (inl within) = within
-  by_case (inr past) = absurd (let clash : true ≡ false = sym is ∙ past_is_clear d past in cc)
-
--- and then bit 0 of it is written
+-- and one that writes a bit of it writes its bit 0
 pub written_first : (ws : List ℕ) (d : Driver) (x k : ℕ) → ArePositive ws → IsWhole ws d → writes ws d x k ≡ true → writes ws d x 0 ≡ true
 written_first ws d x k positive whole is = by_test (writes ws d x 0) refl where
   by_test : (t : Bool) → writes ws d x 0 ≡ t → t ≡ true
@@ -218,10 +182,6 @@ effect_length : (ws : List ℕ) (d : Driver) (u : List ℕ) → length (effect w
 effect_length ws (Clocked triggers body at) u = refl
 effect_length ws (Assign (Of None name place) value at) u = refl
 effect_length ws (Assign (Of (Some var) name place) value at) u = length-set u var (val ws u value)
-
-pub run_length : (ws : List ℕ) (drivers : List Driver) (u : List ℕ) → length (run ws drivers u) ≡ length u
-run_length ws [] u = refl
-run_length ws (d ∷ drivers) u = run_length ws drivers (effect ws d u) ∙ effect_length ws d u
 
 -- what no driver of a run gives is as it was: all the variables of a list
 leaves_reads : (ws : List ℕ) (drivers : List Driver) (u : List ℕ) (xs : List ℕ) → ArePositive ws → AllByRecursion (IsWhole ws) drivers → AllByRecursion (λ x. (k : ℕ) → NoneDrives ws drivers x k) xs → AgreeAt (run ws drivers u) u xs
@@ -300,6 +260,7 @@ held_or_not ws kept u v (d ∷ drivers) x k a b = by_test (holds ws d x k) refl 
   by_rest : holds ws d x k ≡ false → (bit_at (slice_index u x) k ≡ bit_at (slice_index v x) k) ⊎ NoneHolds ws drivers x k → (bit_at (slice_index u x) k ≡ bit_at (slice_index v x) k) ⊎ NoneHolds ws (d ∷ drivers) x k
   by_rest clear (inl same) = inl same
   by_rest clear (inr none) = inr (clear, none)
+
   by_test : (t : Bool) → holds ws d x k ≡ t → (bit_at (slice_index u x) k ≡ bit_at (slice_index v x) k) ⊎ NoneHolds ws drivers x k → (bit_at (slice_index u x) k ≡ bit_at (slice_index v x) k) ⊎ NoneHolds ws (d ∷ drivers) x k
   by_test true is rest = inl (a.0 x k is ∙ sym (b.0 x k is))
   by_test false is rest = by_rest is rest

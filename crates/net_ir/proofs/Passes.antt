@@ -41,10 +41,6 @@ pub storable_at : (ws : List ℕ) (target : Target) (var width : ℕ) → target
 storable_at ws (Of None name place) var width is storable = absurd (cc)
 storable_at ws (Of (Some x) name place) var width is storable = let same : x ≡ var = cc in subst (λ i. (i < length ws) × (width ≡ slice_index ws i)) same storable
 
-pub storable_some : (ws : List ℕ) (target : Target) (width : ℕ) → target_var target ≡ None → IsStorable ws target width → ⊥
-storable_some ws (Of None name place) width is storable = storable
-storable_some ws (Of (Some x) name place) width is storable = absurd (cc)
-
 pub stored_widths : (values : List Bits) (target : Target) (var : ℕ) (b : Bits) → target_var target ≡ Some var → IsStorable (widths values) target b.width → widths (slice_set values var b) ≡ widths values
 stored_widths values target var b is storable =
     map-set (λ (x : Bits). x.width) values var b ∙ set_same (widths values) var b.width (storable_at (widths values) target var b.width is storable).1

@@ -17,9 +17,9 @@ use Rattle.net_ir.specs.Drive.{holds, writes, NoneDrives, NoneWrites}
 use Rattle.net_ir.specs.Solution.{Solves, IsValuation, IsDriven, IsHeld}
 use Rattle.net_ir.specs.Plain.{IsPlain, IsInput, SparesInputs}
 use Rattle.net_ir.specs.Pass.{run, source_at, source_of, sources_of, state_of, KeepsInitial}
-use Rattle.net_ir.proofs.Elements.{all_from, all_both}
+use Rattle.net_ir.proofs.Elements.{all_both}
 use Rattle.net_ir.proofs.Order.{run_leaves, drives_all, none_drives, none_drives_first, none_holds, held_alone, held_is_written}
-use Rattle.net_ir.proofs.Unique.{length-widths, width_is, positive_widths, input_or_not}
+use Rattle.net_ir.proofs.Unique.{length-widths, width_is, positive_widths}
 use Rattle.net_ir.proofs.Passes.{length_from_widths, source_index, sources_widths}
 
 -- a value at a number below their count
@@ -96,6 +96,7 @@ before_inner : (vars : List Var) (inputs held : List Bits) (x : ℕ) → widths 
 before_inner vars inputs held x is_inputs is_held inner = by_case (slice_get_cases vars x).1 where
   none_past : (values : List Bits) → widths values ≡ widths_of vars → length vars ≤ x → slice_index (words values) x ≡ 0
   none_past values is past = get_or_past (words values) x 0 (subst (λ n. n ≤ x) (sym (length-map values (λ b. b.word) ∙ length_from_widths values vars is)) past)
+
   by_case : ((v : Var) × (x < length vars) × (slice_get vars x ≡ Some v) × (get_or vars x v ≡ v)) ⊎ ((length vars ≤ x) × (slice_get vars x ≡ None)) → slice_index (words (sources_of vars inputs held)) x ≡ slice_index (words held) x
   by_case (inl found) = before_held vars inputs held x found.0 is_inputs is_held found.2 (λ input. inner (found.0, found.2, input))
   by_case (inr past) = none_past (sources_of vars inputs held) (sources_widths vars inputs held is_inputs is_held) past.0 ∙ sym (none_past held is_held past.0)

@@ -1,6 +1,6 @@
 -- Statements layer by layer: what they write and read, and what holds of whole assignments.
-use Rattle.std.proofs.Common.{◌≡◌, ℕ, ◌<◌, List, [], ◌∷◌, ◌++◌, length, map, Bool, true, false, refl, sym, ◌∙◌, ap, subst, None, Some}
-use Rattle.std.specs.Prelude.{slice_index, ◌==◌, ◌&&◌, nat_lt, if◌then◌else◌}
+use Rattle.std.proofs.Common.{◌≡◌, ℕ, ◌<◌, List, [], ◌∷◌, length, map, Bool, false, sym, ◌∙◌, ap, subst, None, Some}
+use Rattle.std.specs.Prelude.{slice_index, if◌then◌else◌}
 use Rattle.std.specs.List.{AllByRecursion, flat_map}
 use Rattle.std.specs.Int.{bit_at}
 use Rattle.std.proofs.lemmas.List.Folds.{flat_map-map}
@@ -134,11 +134,11 @@ writes_spare ws u x k =
     let P : Stmt → Type 0 = λ s. AllByRecursion IsClear (targets_of s) → AllByRecursion (SparesBit ws x k) (writes_of ws u s) in
     by_layers P
     (λ parts each clear. subst (AllByRecursion (SparesBit ws x k)) (sym (writes_block ws u parts))
-        (all_flat (SparesBit ws x k) (writes_of ws u) parts
-        (all_both P (λ s. AllByRecursion IsClear (targets_of s)) (λ s. AllByRecursion (SparesBit ws x k) (writes_of ws u s)) (λ s f e. f e) parts each
-        (each_flat IsClear targets_of parts (subst (AllByRecursion IsClear) (targets_block parts) clear)))))
+    (all_flat (SparesBit ws x k) (writes_of ws u) parts
+    (all_both P (λ s. AllByRecursion IsClear (targets_of s)) (λ s. AllByRecursion (SparesBit ws x k) (writes_of ws u s)) (λ s f e. f e) parts each
+    (each_flat IsClear targets_of parts (subst (AllByRecursion IsClear) (targets_block parts) clear)))))
     (λ blocking target value clear. subst (AllByRecursion (SparesBit ws x k)) (sym (writes_assign ws u blocking target value))
-        (spares_to ws target (val ws u value) x k (subst (AllByRecursion IsClear) (targets_assign blocking target value) clear).0))
+    (spares_to ws target (val ws u value) x k (subst (AllByRecursion IsClear) (targets_assign blocking target value) clear).0))
 
 -- ---- what statements read
 
@@ -149,10 +149,10 @@ writes_are_local ws u v =
     let P : Stmt → Type 0 = λ s. AllByRecursion Same (statement_reads s) → writes_of ws u s ≡ writes_of ws v s in
     by_layers P
     (λ parts each agree. writes_block ws u parts
-        ∙ flat_same (writes_of ws u) (writes_of ws v) parts
-        (all_both P (λ s. AllByRecursion Same (statement_reads s)) (λ s. writes_of ws u s ≡ writes_of ws v s) (λ s f e. f e) parts each
-        (each_flat Same statement_reads parts (subst (AllByRecursion Same) (reads_block parts) agree)))
-        ∙ sym (writes_block ws v parts))
+    ∙ flat_same (writes_of ws u) (writes_of ws v) parts
+    (all_both P (λ s. AllByRecursion Same (statement_reads s)) (λ s. writes_of ws u s ≡ writes_of ws v s) (λ s f e. f e) parts each
+    (each_flat Same statement_reads parts (subst (AllByRecursion Same) (reads_block parts) agree)))
+    ∙ sym (writes_block ws v parts))
     (λ blocking target value agree. writes_assign ws u blocking target value
-        ∙ ap (λ p. write_to target p.1) (operand_is_local ws value u v (subst (AllByRecursion Same) (reads_assign blocking target value) agree))
-        ∙ sym (writes_assign ws v blocking target value))
+    ∙ ap (λ p. write_to target p.1) (operand_is_local ws value u v (subst (AllByRecursion Same) (reads_assign blocking target value) agree))
+    ∙ sym (writes_assign ws v blocking target value))

@@ -13,7 +13,7 @@ use Rattle.net_ir.specs.declared.design.Role.TheVariants.{Input, Output, Inner}
 use Rattle.net_ir.specs.declared.design.Var.{Var}
 use Rattle.net_ir.specs.declared.design.Spec.{Spec}
 use Rattle.net_ir.specs.Value.{widths_of}
-use Rattle.net_ir.specs.Drive.{NoneDrives, NoneHolds}
+use Rattle.net_ir.specs.Drive.{NoneHolds}
 use Rattle.net_ir.specs.Face.{ports_of}
 use Rattle.net_ir.specs.Solution.{Solves, IsValuation}
 use Rattle.net_ir.specs.Plain.{IsPlain, HaveInitialValues}

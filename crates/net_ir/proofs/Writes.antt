@@ -1,5 +1,5 @@
 -- The words after writes, each stored in the whole of its variable.
-use Rattle.std.proofs.Common.{◌≡◌, ℕ, zero, suc, ◌<◌, ◌≤◌, ◌+◌, List, [], ◌∷◌, ◌++◌, length, drop, get_or, refl, sym, ◌∙◌, ap, subst, arith, add-one, drop-cons, Bool, true, false, Option, None, Some, inl, inr}
+use Rattle.std.proofs.Common.{◌≡◌, ℕ, suc, ◌<◌, ◌≤◌, ◌+◌, List, [], ◌∷◌, ◌++◌, length, drop, get_or, refl, sym, ◌∙◌, ap, subst, add-one, drop-cons, Bool, true, false, Option, None, Some, inl, inr}
 use Rattle.std.specs.Prelude.{slice_index, slice_set, unwrap_or, ◌==◌, ◌&&◌, nat_lt, ◌⊎◌, if◌then◌else◌}
 use Rattle.std.specs.List.{AllByRecursion, flat_map, list_any}
 use Rattle.std.specs.Int.{bit_at}
@@ -8,11 +8,10 @@ use Rattle.bit_ops.specs.declared.value.Bits.{Bits}
 use Rattle.bit_ops.specs.Lists.{words, widths}
 use Rattle.net_ir.specs.declared.design.Driver.{Driver}
 use Rattle.net_ir.specs.declared.design.Driver.TheVariants.{Assign, Clocked}
-use Rattle.net_ir.specs.declared.design.Target.{Target}
 use Rattle.net_ir.specs.declared.design.Spec.{Spec}
 use Rattle.net_ir.specs.Value.{widths_of}
 use Rattle.net_ir.specs.Statement.{Write, written_bit, later_or, last_bit, bit_after, targets_of, writes_of}
-use Rattle.net_ir.specs.Drive.{writes_bit, holds, NoneHolds}
+use Rattle.net_ir.specs.Drive.{writes_bit, holds}
 use Rattle.net_ir.specs.Plain.{IsWhole, IsPlain}
 use Rattle.net_ir.specs.Pass.{store_all, KeepsInitial}
 use Rattle.net_ir.specs.Run.{occurs, sampled, all_sampled}
@@ -47,6 +46,7 @@ written_once : (ws : List ℕ) (w : Write) (u : List ℕ) (x k : ℕ) → length
 written_once ws w u x k shape there within = by_case (same_or_not w.var x) where
   bit_if : Bool → Option ℕ
   bit_if b = if b then Some (bit_at w.word k) else None
+
   by_case : (w.var ≡ x) ⊎ (w.var ≡ x → ⊥) → bit_at (slice_index (slice_set u w.var w.word) x) k ≡ unwrap_or (written_bit ws w x k) (bit_at (slice_index u x) k)
   by_case (inl same) =
       let hits : ((w.var == x) && nat_lt k (slice_index ws w.var)) ≡ true =

@@ -1,8 +1,7 @@
-use Rattle.std.proofs.Common.{◌≡◌, sym, ◌∙◌, ap, subst, rules}
+use Rattle.std.proofs.Common.{sym, ◌∙◌, ap, subst, rules}
 use Rattle.std.specs.List.{AllByRecursion, flat_map}
 use borrow.Author.Rules.{get_or_read}
 use Rattle.bit_ops.specs.Lists.{words, widths}
-use Rattle.net_ir.specs.declared.statement.Stmt.{Block, Assign}
 use Rattle.net_ir.specs.declared.statement.Stmt.TheFolds.{every-Stmt, the_lemmas}
 use Rattle.net_ir.specs.Statement.{writes_of}
 use Rattle.net_ir.specs.Plain.{IsWholeLayer, IsWholeTo}

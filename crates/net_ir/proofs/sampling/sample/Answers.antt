@@ -1,7 +1,6 @@
-use Rattle.std.proofs.Common.{◌≡◌, sym, ◌∙◌, ap, subst}
+use Rattle.std.proofs.Common.{◌≡◌, sym, ◌∙◌, ap}
 use Rattle.std.specs.List.{flat_map}
 use Rattle.bit_ops.specs.Lists.{words, widths}
-use Rattle.net_ir.specs.Value.{widths_of}
 use Rattle.net_ir.specs.Run.{sampled, all_sampled}
 use Rattle.net_ir.specs.Pass.{store_all}
 use Rattle.net_ir.proofs.Writes.{stored_more, stored_all, stored_samples, stored_initial}
