@@ -1,7 +1,12 @@
 pub mod Terms
 pub mod Layers
+pub mod Elements
+pub mod Statements
 pub mod Order
 pub mod Unique
 pub mod Passes
 pub mod Solved
+pub mod Writes
+pub mod LawfulReads
+pub mod Idle
 pub mod Turns

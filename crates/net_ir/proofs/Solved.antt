@@ -1,24 +1,24 @@
 -- What a pass over a plain design's drivers leaves solves it.
-use Rattle.std.proofs.Common.{◌≡◌, ℕ, zero, suc, ◌<◌, ◌^◌, List, [], ◌∷◌, length, get_or, refl, sym, ◌∙◌, ap, subst, arith, Some, Bool, true, false}
-use Rattle.std.specs.Prelude.{slice_index, slice_get}
+use Rattle.std.proofs.Common.{◌≡◌, ℕ, zero, suc, ◌<◌, ◌≤◌, ◌^◌, List, [], ◌∷◌, length, get_or, refl, sym, ◌∙◌, ap, subst, arith, Some, None, Bool, true, false, inl, inr}
+use Rattle.std.specs.Prelude.{slice_index, slice_get, ◌⊎◌}
 use Rattle.std.specs.List.{AllByRecursion}
 use Rattle.std.specs.Int.{bit_at}
-use Rattle.std.proofs.lemmas.List.{length-map, get_or-map}
-use Rattle.std.proofs.lemmas.Option.{slice_get_within, get_or_from_slice_get}
+use Rattle.std.proofs.lemmas.List.{length-map, get_or-map, get_or_past}
+use Rattle.std.proofs.lemmas.Option.{slice_get_within, slice_get_cases, get_or_from_slice_get}
 use Rattle.bit_ops.specs.declared.value.Bits.{Bits}
 use Rattle.net_ir.specs.declared.design.Role.{Role}
-use Rattle.net_ir.specs.declared.design.Role.TheVariants.{Input, Output}
+use Rattle.net_ir.specs.declared.design.Role.TheVariants.{Input, Output, Inner}
 use Rattle.net_ir.specs.declared.design.Var.{Var}
 use Rattle.net_ir.specs.declared.design.Driver.{Driver}
 use Rattle.net_ir.specs.declared.design.Spec.{Spec}
 use Rattle.bit_ops.specs.Lists.{words, widths}
 use Rattle.net_ir.specs.Value.{widths_of}
-use Rattle.net_ir.specs.Drive.{writes}
-use Rattle.net_ir.specs.Run.{at_levels}
-use Rattle.net_ir.specs.Solution.{Solves, IsValuation, IsDriven}
-use Rattle.net_ir.specs.Plain.{IsPlain, IsInput, SparesInputs, NoneWrites}
-use Rattle.net_ir.specs.Pass.{run, source_at, source_of, sources_of}
-use Rattle.net_ir.proofs.Order.{run_leaves, drives_all, none_writes}
+use Rattle.net_ir.specs.Drive.{holds, writes, NoneDrives, NoneWrites}
+use Rattle.net_ir.specs.Solution.{Solves, IsValuation, IsDriven, IsHeld}
+use Rattle.net_ir.specs.Plain.{IsPlain, IsInput, SparesInputs}
+use Rattle.net_ir.specs.Pass.{run, source_at, source_of, sources_of, state_of, KeepsInitial}
+use Rattle.net_ir.proofs.Elements.{all_both}
+use Rattle.net_ir.proofs.Order.{run_leaves, drives_all, none_drives, none_drives_first, none_holds, held_alone, held_is_written}
 use Rattle.net_ir.proofs.Unique.{length-widths, width_is, positive_widths}
 use Rattle.net_ir.proofs.Passes.{length_from_widths, source_index, sources_widths}
 
@@ -45,25 +45,61 @@ are_valuation vars values is = record {
       subst (λ n. n < 2 ^ v.width) (sym (word_at values x found.0 within found.1)) (subst (λ w. found.0.word < 2 ^ w) same fits);
 }
 
--- what stands before the drivers
-source_word : (vars : List Var) (inputs : List Bits) (x : ℕ) (v : Var) → widths inputs ≡ widths_of vars → length (sources_of vars inputs) ≡ length vars → slice_get vars x ≡ Some v → (b : Bits) × (slice_index (words inputs) x ≡ b.word) × (slice_index (words (sources_of vars inputs)) x ≡ (source_of v b).word)
-source_word vars inputs x v is long at =
+-- ---- what stands before the drivers
+
+-- the word of an input is the level, and that of another variable what is held
+source_input : (r : Role) (input held : Bits) → r ≡ Input → (source_at r input held).word ≡ input.word
+source_input r input held is = ap (λ q. (source_at q input held).word) is
+
+source_held : (r : Role) (input held : Bits) → (r ≡ Input → ⊥) → (source_at r input held).word ≡ held.word
+source_held Input input held inner = absurd (inner refl)
+source_held Output input held inner = refl
+source_held Inner input held inner = refl
+
+-- a value in each of the two lists, and what they give
+record Sources (inputs held sources : List Bits) (x : ℕ) (v : Var) : Type 0 where
+  input : Bits
+  register : Bits
+  level : slice_index (words inputs) x ≡ input.word
+  kept : slice_index (words held) x ≡ register.word
+  before : slice_index (words sources) x ≡ (source_of v input register).word
+
+sources_at : (vars : List Var) (inputs held : List Bits) (x : ℕ) (v : Var) → widths inputs ≡ widths_of vars → widths held ≡ widths_of vars → slice_get vars x ≡ Some v → Sources inputs held (sources_of vars inputs held) x v
+sources_at vars inputs held x v is_inputs is_held at =
     let here : x < length vars = slice_get_within vars x v at in
-    let there : x < length inputs = subst (λ n. x < n) (sym (length_from_widths inputs vars is)) here in
-    let found = value_at inputs x there in
-    let v_is : v ≡ get_or vars x v = sym (get_or_from_slice_get vars x v v at) in (
-      found.0,
-      word_at inputs x found.0 there found.1,
-      word_at (sources_of vars inputs) x (source_of v found.0) (subst (λ n. x < n) (sym long) here)
-          (sym (source_index vars inputs x v found.0 (source_of v found.0) here there v_is found.1)),
-    )
+    let there : x < length inputs = subst (λ n. x < n) (sym (length_from_widths inputs vars is_inputs)) here in
+    let near : x < length held = subst (λ n. x < n) (sym (length_from_widths held vars is_held)) here in
+    let long : length (sources_of vars inputs held) ≡ length vars = length_from_widths (sources_of vars inputs held) vars (sources_widths vars inputs held is_inputs is_held) in
+    let i = value_at inputs x there in
+    let h = value_at held x near in
+    let v_is : v ≡ get_or vars x v = sym (get_or_from_slice_get vars x v v at) in record {
+      input = i.0;
+      register = h.0;
+      level = word_at inputs x i.0 there i.1;
+      kept = word_at held x h.0 near h.1;
+      before = word_at (sources_of vars inputs held) x (source_of v i.0 h.0) (subst (λ n. x < n) (sym long) here)
+          (sym (source_index vars inputs held x v i.0 h.0 (source_of v i.0 h.0) here there near v_is i.1 h.1));
+    }
 
-source_is_input : (v : Var) (b : Bits) → v.role ≡ Input → (source_of v b).word ≡ b.word
-source_is_input v b is = ap (λ r. (source_at r b v.init).word) is
+before_input : (vars : List Var) (inputs held : List Bits) (x : ℕ) (v : Var) → widths inputs ≡ widths_of vars → widths held ≡ widths_of vars → slice_get vars x ≡ Some v → v.role ≡ Input → slice_index (words (sources_of vars inputs held)) x ≡ slice_index (words inputs) x
+before_input vars inputs held x v is_inputs is_held at input =
+    let s = sources_at vars inputs held x v is_inputs is_held at in
+    s.before ∙ source_input v.role s.input s.register input ∙ sym s.level
 
-source_is_init : (r : Role) (b init : Bits) → (r ≡ Input → ⊥) → (source_at r b init).word ≡ init.word
-source_is_init Input b init inner = absurd (inner refl)
-source_is_init Output b init inner = refl
+before_held : (vars : List Var) (inputs held : List Bits) (x : ℕ) (v : Var) → widths inputs ≡ widths_of vars → widths held ≡ widths_of vars → slice_get vars x ≡ Some v → (v.role ≡ Input → ⊥) → slice_index (words (sources_of vars inputs held)) x ≡ slice_index (words held) x
+before_held vars inputs held x v is_inputs is_held at inner =
+    let s = sources_at vars inputs held x v is_inputs is_held at in
+    s.before ∙ source_held v.role s.input s.register inner ∙ sym s.kept
+
+-- what is no input has what is held, also where no variable stands
+before_inner : (vars : List Var) (inputs held : List Bits) (x : ℕ) → widths inputs ≡ widths_of vars → widths held ≡ widths_of vars → (IsInput vars x → ⊥) → slice_index (words (sources_of vars inputs held)) x ≡ slice_index (words held) x
+before_inner vars inputs held x is_inputs is_held inner = by_case (slice_get_cases vars x).1 where
+  none_past : (values : List Bits) → widths values ≡ widths_of vars → length vars ≤ x → slice_index (words values) x ≡ 0
+  none_past values is past = get_or_past (words values) x 0 (subst (λ n. n ≤ x) (sym (length-map values (λ b. b.word) ∙ length_from_widths values vars is)) past)
+
+  by_case : ((v : Var) × (x < length vars) × (slice_get vars x ≡ Some v) × (get_or vars x v ≡ v)) ⊎ ((length vars ≤ x) × (slice_get vars x ≡ None)) → slice_index (words (sources_of vars inputs held)) x ≡ slice_index (words held) x
+  by_case (inl found) = before_held vars inputs held x found.0 is_inputs is_held found.2 (λ input. inner (found.0, found.2, input))
+  by_case (inr past) = none_past (sources_of vars inputs held) (sources_widths vars inputs held is_inputs is_held) past.0 ∙ sym (none_past held is_held past.0)
 
 -- no driver writes an input
 spared : (vars : List Var) (drivers : List Driver) (x : ℕ) → AllByRecursion (SparesInputs vars) drivers → IsInput vars x → NoneWrites (widths_of vars) drivers x 0
@@ -73,24 +109,29 @@ spared vars (d ∷ drivers) x spares input = (by_test (writes (widths_of vars) d
   by_test false is = refl
   by_test true is = absurd (spares.0 x 0 is input)
 
-pub run_solves : (spec : Spec) (inputs values : List Bits) → IsPlain spec → widths inputs ≡ widths_of spec.vars → widths values ≡ widths_of spec.vars → words values ≡ run (widths_of spec.vars) spec.drivers (words (sources_of spec.vars inputs)) → Solves spec (at_levels (words inputs)) (words values)
-run_solves spec inputs values plain is_inputs is_values is_run =
+-- ---- the solution
+
+pub run_solves : (spec : Spec) (inputs held values : List Bits) → IsPlain spec → widths inputs ≡ widths_of spec.vars → widths held ≡ widths_of spec.vars → KeepsInitial spec (words held) → widths values ≡ widths_of spec.vars → words values ≡ run (widths_of spec.vars) spec.drivers (words (sources_of spec.vars inputs held)) → Solves spec (state_of inputs held) (words values)
+run_solves spec inputs held values plain is_inputs is_held initial is_values is_run =
     let vars = spec.vars in
     let ws = widths_of vars in
-    let before = words (sources_of vars inputs) in
+    let before = words (sources_of vars inputs held) in
     let positive = positive_widths vars plain.vars in
-    let sources_long : length (sources_of vars inputs) ≡ length vars = length_from_widths (sources_of vars inputs) vars (sources_widths vars inputs plain.vars is_inputs) in
-    let before_long : length before ≡ length ws = length-map (sources_of vars inputs) (λ b. b.word) ∙ sources_long ∙ sym (length-widths vars) in
-    let leaves : (x : ℕ) → NoneWrites ws spec.drivers x 0 → slice_index (words values) x ≡ slice_index before x =
+    let before_long : length before ≡ length ws =
+    length-map (sources_of vars inputs held) (λ b. b.word) ∙ length_from_widths (sources_of vars inputs held) vars (sources_widths vars inputs held is_inputs is_held) ∙ sym (length-widths vars) in
+    let leaves : (x : ℕ) → NoneDrives ws spec.drivers x 0 → slice_index (words values) x ≡ slice_index before x =
     λ x none. ap (λ u. slice_index u x) is_run ∙ run_leaves ws spec.drivers before x positive plain.whole none in
+    let Apart : Driver → Type 0 = λ d. (x k : ℕ) → holds ws d x k ≡ true → NoneDrives ws spec.drivers x 0 in
     record {
       valuation = are_valuation vars values is_values;
       set = λ x v at input.
-          let source = source_word vars inputs x v is_inputs sources_long at in
-          leaves x (spared vars spec.drivers x plain.inner (v, at, input)) ∙ source.2 ∙ source_is_input v source.0 input ∙ sym source.1;
+          leaves x (none_drives ws spec.drivers x 0 (spared vars spec.drivers x plain.inner (v, at, input))) ∙ before_input vars inputs held x v is_inputs is_held at input;
+      registered = all_both (SparesInputs vars) Apart (IsHeld ws (words held) (words values))
+          (λ d spares apart x k holding. ap (λ n. bit_at n k) (leaves x (apart x k holding) ∙ before_inner vars inputs held x is_inputs is_held (spares x k (held_is_written ws d x k holding))))
+          spec.drivers plain.inner (held_alone ws spec.drivers positive plain.whole plain.ordered);
       driven = subst (λ u. AllByRecursion (IsDriven ws u) spec.drivers) (sym is_run) (drives_all ws spec.drivers before positive before_long plain.whole plain.ordered);
       undriven = λ x k v at inner within none.
-          let source = source_word vars inputs x v is_inputs sources_long at in
           let bit : k < slice_index ws x = subst (λ n. k < n) (sym (width_is vars x v at)) within in
-          ap (λ n. bit_at n k) (leaves x (none_writes ws spec.drivers (words values) x k positive plain.whole bit none) ∙ source.2 ∙ source_is_init v.role source.0 v.init inner);
+          ap (λ n. bit_at n k) (leaves x (none_drives_first ws spec.drivers x k bit (none_drives ws spec.drivers x k none)) ∙ before_held vars inputs held x v is_inputs is_held at inner)
+          ∙ initial x k v at within (none_holds ws spec.drivers x k none);
     }

@@ -18,13 +18,7 @@ use bit_ops::Bits;
 
 /// Gives the registers whose edge occurs, where the inputs change from `before` to `after`, what they sample in the
 /// solution `values` of the state before. A value for each variable stands in each list. Takes no memory.
-pub fn sample(
-    spec: &Spec,
-    values: &[Bits],
-    before: &[Bits],
-    after: &[Bits],
-    registers: &mut [Bits],
-)
+pub fn sample(spec: &Spec, values: &[Bits], before: &[Bits], after: &[Bits], registers: &mut [Bits])
     requires plain { IsPlain spec.now }
     requires values { widths values.now ≡ widths_of spec.now.vars }
     requires before { widths before.now ≡ widths_of spec.now.vars }
