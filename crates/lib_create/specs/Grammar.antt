@@ -119,10 +119,10 @@ is_empty (x ∷ xs) = false
 -- Where so many blocks are open, these pieces finish one statement and nothing more:
 -- nb = id "<=" expr ";" | "begin" { nb } "end".
 abbrev pub finishes : ℕ → List Piece → Bool
-finishes open [] = false
+finishes n [] = false
 finishes zero (piece.Assign a ∷ pieces) = is_empty pieces
 finishes (suc n) (piece.Assign a ∷ pieces) = finishes (suc n) pieces
-finishes open (piece.Begin ∷ pieces) = finishes (suc open) pieces
+finishes n (piece.Begin ∷ pieces) = finishes (suc n) pieces
 finishes zero (piece.End ∷ pieces) = false
 finishes (suc zero) (piece.End ∷ pieces) = is_empty pieces
 finishes (suc (suc n)) (piece.End ∷ pieces) = finishes (suc n) pieces

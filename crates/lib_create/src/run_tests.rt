@@ -161,8 +161,23 @@ output logic g, output logic h, output logic s, output logic d);\n\
 assign p = a ^ b;\nassign g = a & b;\nassign h = p & c;\nassign s = p ^ c;\nassign d = g | h;\n\
 endmodule\n";
 
+const SWAP: &str = "module t(input logic clk, output logic a, output logic b); \
+always_ff @(posedge clk) begin a <= b; b <= ~a; end endmodule";
+
+const IDLE: &str = "module t(input logic clk, input logic i, input logic d, output logic q); \
+always_ff @(posedge clk) q <= d; endmodule";
+
+const TWO_CLOCKS: &str = "module t(input logic c1, input logic c2, output logic a, output logic b); \
+always_ff @(posedge c1) a <= b; always_ff @(posedge c2) b <= ~a; endmodule";
+
+const WRITTEN_TWICE: &str = "module t(input logic clk, output logic q, output logic r); \
+always_ff @(posedge clk) begin q <= r; begin q <= ~r; end r <= q; end endmodule";
+
+const INNER: &str = "module t(input logic clk, input logic d, output logic y); logic q; \
+assign y = ~q; always_ff @(posedge clk) begin begin q <= d; end end endmodule";
+
 // Sources and stimuli, and the traces that they give.
-const TRACES: [(&str, &str, &str); 6] = [
+const TRACES: [(&str, &str, &str); 12] = [
     (INVERTER, "", "step a:1 y:1\n0 0 1\n"),
     (INVERTER, "d a=1", "step a:1 y:1\n0 0 1\n1 1 0\n"),
     (
@@ -183,6 +198,41 @@ d a=1 b=0 c=0\nd a=1 b=0 c=1\nd a=1 b=1 c=0\nd a=1 b=1 c=1\n",
         "step a:1 b:1 c:1 p:1 g:1 h:1 s:1 d:1\n0 0 0 0 0 0 0 0 0\n\
 1 0 0 0 0 0 0 0 0\n2 0 0 1 0 0 0 1 0\n3 0 1 0 1 0 0 1 0\n4 0 1 1 1 0 1 0 1\n\
 5 1 0 0 1 0 0 1 0\n6 1 0 1 1 0 1 0 1\n7 1 1 0 0 1 0 0 1\n8 1 1 1 0 1 0 1 1\n",
+    ),
+    (
+        SWAP,
+        "c clk=1\nc clk=0\nc clk=1",
+        "step clk:1 a:1 b:1\n0 0 0 0\n1 1 0 1\n2 0 0 1\n3 1 1 1\n",
+    ),
+    // To set a clock to its own level is no edge, and neither is a fall.
+    (
+        SWAP,
+        "c clk=1\nc clk=1\nc clk=0\nc\nc clk=1",
+        "step clk:1 a:1 b:1\n0 0 0 0\n1 1 0 1\n2 1 0 1\n3 0 0 1\n4 0 0 1\n5 1 1 1\n",
+    ),
+    // Lines of both kinds set the idle input.
+    (
+        IDLE,
+        "d i=1 d=1\nc i=0 clk=1\nd d=0\nc clk=0 i=1\n",
+        "step clk:1 i:1 d:1 q:1\n0 0 0 0 0\n1 0 1 1 0\n2 1 0 1 1\n3 1 0 0 1\n4 0 1 0 1\n",
+    ),
+    // Two clocks rise in one step, and each register samples what the other was before.
+    (
+        TWO_CLOCKS,
+        "c c1=1 c2=1\nc c1=0 c2=0\nc c2=1 c1=1\n",
+        "step c1:1 c2:1 a:1 b:1\n0 0 0 0 0\n1 1 1 0 1\n2 0 0 0 1\n3 1 1 1 1\n",
+    ),
+    // A later write covers an earlier one.
+    (
+        WRITTEN_TWICE,
+        "c clk=1\nc clk=0\nc clk=1\n",
+        "step clk:1 q:1 r:1\n0 0 0 0\n1 1 1 0\n2 0 1 0\n3 1 1 1\n",
+    ),
+    // A variable that no port shows is read before the process that writes it.
+    (
+        INNER,
+        "d d=1\nc clk=1\nd d=0\n",
+        "step clk:1 d:1 y:1\n0 0 0 1\n1 0 1 1\n2 1 1 0\n3 1 0 0\n",
     ),
 ];
 
@@ -230,32 +280,49 @@ fn absent_files_are_told(rt: HostRuntime) -> Result<(), Fail> {
     Ok(())
 }
 
-// Sources that are no plain design of the top `t`.
-const REFUSED: [&str; 12] = [
-    "",
-    "endmodule",
-    "module u(input logic a, output logic y); assign y = ~a; endmodule",
-    "module t(input logic a, output logic y); initial y = 0; endmodule",
-    "module t(input logic a, output logic y, output logic z); assign y = ~z; assign z = a; endmodule",
-    "module t(input logic a, output logic y); assign y = a; assign y = ~a; endmodule",
-    "module t(input logic a, output logic y); assign y = a; assign y = a; endmodule",
-    "module t(input logic a, output logic y); assign a = y; endmodule",
-    "module t(input logic a, output logic y); assign y = ~y; endmodule",
-    "module t(input logic a, input logic a, output logic y); assign y = a; endmodule",
-    "module t(input logic a, output logic y); assign y = a & b; endmodule",
-    "module t(input logic a, output logic y); assign z = a; endmodule",
+const UNSUPPORTED: &str = "-:0: Unsupported plain\n";
+
+// Sources of which none is a legal design of the top `t`, and the message.
+const REFUSED: [(&str, &str); 28] = [
+    ("", "t.sv:0: Unexpected\n"),
+    ("\n\n", "t.sv:0: Unexpected\n"),
+    ("endmodule", "t.sv:1: Unexpected endmodule\n"),
+    ("module t(input logic a, output logic y);\nassign y = a +;\nendmodule", "t.sv:2: Unexpected +\n"),
+    ("module t(input logic a, output logic y);\nassign y = b;\nendmodule", "t.sv:2: UnknownName b\n"),
+    ("module t(input logic a, output logic y);\nassign y =\n", "t.sv:2: Unexpected\n"),
+    ("module t(input logic a, output logic y); initial y = 0; endmodule", "t.sv:1: Unexpected initial\n"),
+    ("module t(input logic a, output logic y); assign y <= a; endmodule", "t.sv:1: Unexpected\n"),
+    ("module t(input logic a, output logic y); # endmodule", "t.sv:1: Unexpected #\n"),
+    ("module t(input logic a, output logic y); assign y = a; endmodule\nx", "t.sv:2: Unexpected x\n"),
+    ("module t(input logic a, output logic y);\nalways_ff @(negedge a) y <= a;\nendmodule", "t.sv:2: Unexpected negedge\n"),
+    ("module t(input logic a, output logic y); always_ff @(posedge a) begin endmodule", "t.sv:1: Unexpected endmodule\n"),
+    ("module u(input logic a, output logic y); assign y = ~a; endmodule", "-:0: UnknownName t\n"),
+    ("module t(input logic a,\ninput logic a, output logic y); assign y = a; endmodule", "t.sv:2: DuplicateName a\n"),
+    ("module t(input logic a, output logic y); assign y = a & b; endmodule", "t.sv:1: UnknownName b\n"),
+    ("module t(input logic a, output logic y); assign z = b; endmodule", "t.sv:1: UnknownName z\n"),
+    ("module t(input logic a, output logic y);\nlogic q;\nlogic y;\nendmodule", "t.sv:3: DuplicateName y\n"),
+    ("module t(input logic a, output logic y);\nassign y = q;\nlogic q;\nendmodule", "t.sv:2: UnknownName q\n"),
+    ("module t(input logic a, output logic y); always_ff @(posedge k) y <= z; endmodule", "t.sv:1: UnknownName k\n"),
+    ("module t(input logic a, output logic y, output logic z); assign y = ~z; assign z = a; endmodule", UNSUPPORTED),
+    ("module t(input logic a, output logic y); assign y = a; assign y = ~a; endmodule", UNSUPPORTED),
+    ("module t(input logic a, output logic y); assign y = a; assign y = a; endmodule", UNSUPPORTED),
+    ("module t(input logic a, output logic y); assign a = y; endmodule", UNSUPPORTED),
+    ("module t(input logic a, output logic y); assign y = ~y; endmodule", UNSUPPORTED),
+    ("module t(input logic k, output logic y); always_ff @(posedge k) y <= k; endmodule", UNSUPPORTED),
+    ("module t(output logic k, output logic y); always_ff @(posedge k) y <= ~y; endmodule", UNSUPPORTED),
+    ("module t(input logic k, output logic y); assign y = y; always_ff @(posedge k) y <= ~y; endmodule", UNSUPPORTED),
+    ("module t(input logic k, input logic a, output logic y); always_ff @(posedge k) begin y <= a; a <= y; end endmodule", UNSUPPORTED),
 ];
 
-const UNSUPPORTED: (u8, &str, &str) = (3, "", "-:0: Unsupported plain\n");
-
 #[test]
-fn sources_that_are_no_plain_design_are_refused(rt: HostRuntime) -> Result<(), Fail> {
-    for source in REFUSED {
+fn sources_that_are_no_legal_design_are_refused(rt: HostRuntime) -> Result<(), Fail> {
+    for (source, message) in REFUSED {
         let files = [("t.sv", source), ("s.txt", "d a=1")];
-        always_gives(&rt, &SIM, &files, UNSUPPORTED)?;
+        always_gives(&rt, &SIM, &files, (3, "", message))?;
     }
     let files = [("t.sv", INVERTER), ("s.txt", "d a=1")];
-    always_gives(&rt, &["sim", "s.txt", "u", "t.sv"], &files, UNSUPPORTED)?;
+    let unknown = (3, "", "-:0: UnknownName u\n");
+    always_gives(&rt, &["sim", "s.txt", "u", "t.sv"], &files, unknown)?;
     Ok(())
 }
 
@@ -265,7 +332,7 @@ const BAD_STIMULI: [(&str, &str, &str); 9] = [
     ("d a=2", "", "stimulus 1: 2 is no value\n"),
     ("d a", "", "stimulus 1: a is no setting\n"),
     ("d a=1 a=0", "", "stimulus 1: a is set twice\n"),
-    ("c a=1", "", "stimulus 1: c is no step\n"),
+    ("c a=1", "", "stimulus 1: a is no clock\n"),
     (
         "d a=1\n# x\nd b=0",
         "1 1 0\n",
@@ -293,6 +360,25 @@ fn bad_stimuli_end_the_trace(rt: HostRuntime) -> Result<(), Fail> {
     for (stimulus, steps, message) in BAD_STIMULI {
         let files = [("t.sv", INVERTER), ("s.txt", stimulus)];
         let trace = format!(in rt.alloc(); "step a:1 y:1\n0 0 1\n{steps}")?;
+        always_gives(&rt, &SIM, &files, (5, trace.as_str(), message))?;
+    }
+    Ok(())
+}
+
+// Stimuli of the design with two registers, the steps of their traces behind step 0, and the message.
+const BAD_CLOCKS: [(&str, &str, &str); 5] = [
+    ("c clk=1\nd clk=0", "1 1 0 1\n", "stimulus 2: clk is a clock\n"),
+    ("c clk=2", "", "stimulus 1: 2 is no value\n"),
+    ("c clk=01", "", "stimulus 1: 01 is no value\n"),
+    ("c a=1", "", "stimulus 1: a is no input\n"),
+    ("c clk=1 clk=1", "", "stimulus 1: clk is set twice\n"),
+];
+
+#[test]
+fn bad_lines_of_clocks_end_the_trace(rt: HostRuntime) -> Result<(), Fail> {
+    for (stimulus, steps, message) in BAD_CLOCKS {
+        let files = [("t.sv", SWAP), ("s.txt", stimulus)];
+        let trace = format!(in rt.alloc(); "step clk:1 a:1 b:1\n0 0 0 0\n{steps}")?;
         always_gives(&rt, &SIM, &files, (5, trace.as_str(), message))?;
     }
     Ok(())
@@ -333,7 +419,7 @@ fn faults_are_told(rt: HostRuntime) -> Result<(), Fail> {
 // The words and files, the call of `err` that fails, and what is given.
 const UNWRITTEN: [(&str, &str, &str, &[u64], (u8, &str, &str)); 4] = [
     ("-", INVERTER, "", &[1], (8, "", "")),
-    ("t.sv", "", "", &[2], (8, "", "-:0: U")),
+    ("t.sv", "", "", &[2], (8, "", "t.sv:0")),
     (
         "t.sv",
         INVERTER,
@@ -365,7 +451,8 @@ fn message_that_is_not_written_is_a_write_fault(rt: HostRuntime) -> Result<(), F
 fn source_has_at_most_1048576_bytes(rt: HostRuntime) -> Result<(), Fail> {
     let order = Order::new(|_, _| 0);
     let trace = "step a:1 y:1\n0 0 1\n";
-    for (count, wanted) in [(1_048_576, (0, trace, "")), (1_048_577, UNSUPPORTED)] {
+    let long = (3, "", "t.sv:1: TooMany file\n");
+    for (count, wanted) in [(1_048_576, (0, trace, "")), (1_048_577, long)] {
         let mut bytes = Vec::from_slice(rt.alloc(), INVERTER.as_bytes())?;
         bytes.resize(count, b' ')?;
         let source = str::from_utf8(bytes.as_slice())?;
