@@ -4,4 +4,5 @@ pub mod Order
 pub mod Unique
 pub mod Passes
 pub mod Solved
+pub mod Marking
 pub mod Turns
