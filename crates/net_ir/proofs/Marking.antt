@@ -97,16 +97,16 @@ pub length_marks : (xs : List ℕ) (marks : List Bool) → length (mark_all xs m
 length_marks [] marks = refl
 length_marks (x ∷ xs) marks = length_marks xs (slice_set marks x true) ∙ length-set marks x true
 
-same_test : (a b : ℕ) → a ≡ b → (a == b) ≡ true
+pub same_test : (a b : ℕ) → a ≡ b → (a == b) ≡ true
 same_test a b h = grind (arith, nat_tests)
 
-other_test : (a b : ℕ) → (a ≡ b → ⊥) → (a == b) ≡ false
+pub other_test : (a b : ℕ) → (a ≡ b → ⊥) → (a == b) ≡ false
 other_test a b h = grind (arith, nat_tests)
 
-same_from_test : (a b : ℕ) → (a == b) ≡ true → a ≡ b
+pub same_from_test : (a b : ℕ) → (a == b) ≡ true → a ≡ b
 same_from_test a b h = grind (arith, nat_tests)
 
-same_or_other : (a b : ℕ) → (a ≡ b) ⊎ (a ≡ b → ⊥)
+pub same_or_other : (a b : ℕ) → (a ≡ b) ⊎ (a ≡ b → ⊥)
 same_or_other a b = decide (a == b) refl where
   decide : (t : Bool) → (a == b) ≡ t → (a ≡ b) ⊎ (a ≡ b → ⊥)
   decide true h = inl (same_from_test a b h)
@@ -132,7 +132,7 @@ marked_at (y ∷ xs) marks x within =
       ap (λ t. t || stands_in x xs) (get_or-set_other marks y x true false (λ e. other (sym e)))
       ∙ sym (ap (λ t. slice_index_or marks x false || (t || stands_in x xs)) (other_test y x other))
 
-no_marks : (n x : ℕ) → slice_index_or (replicate n false) x false ≡ false
+pub no_marks : (n x : ℕ) → slice_index_or (replicate n false) x false ≡ false
 no_marks zero x = refl
 no_marks (suc n) zero = refl
 no_marks (suc n) (suc x) = no_marks n x
