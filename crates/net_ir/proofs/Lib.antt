@@ -6,3 +6,4 @@ pub mod Passes
 pub mod Solved
 pub mod Marking
 pub mod Turns
+pub mod PlainClocks

@@ -91,6 +91,16 @@ all_fails p f xs i a all within is fail so_far =
 pub all_done : {X Y : Type 0} (p : Y → Bool) (f : X → List Y) (xs : List X) (i : ℕ) (all : Bool) → length xs ≤ i → list_all p (flat_map f (drop i xs)) ≡ all → true ≡ all
 all_done p f xs i all past so_far = sym (ap (λ ys. list_all p (flat_map f ys)) (drop_all i xs past)) ∙ so_far
 
+-- the same of the items themselves
+pub each_more : {X : Type 0} (p : X → Bool) (xs : List X) (i : ℕ) (a : X) (all : Bool) → i < length xs → a ≡ get_or xs i a → p a ≡ true → list_all p (drop i xs) ≡ all → list_all p (drop (i + 1) xs) ≡ all
+each_more p xs i a all within is pass so_far = sym (ap (λ t. t && list_all p (drop (i + 1) xs)) pass) ∙ sym (ap (list_all p) (split_items xs i a within is)) ∙ so_far
+
+pub each_fails : {X : Type 0} (p : X → Bool) (xs : List X) (i : ℕ) (a : X) (all : Bool) → i < length xs → a ≡ get_or xs i a → p a ≡ false → list_all p (drop i xs) ≡ all → false ≡ all
+each_fails p xs i a all within is fail so_far = sym (ap (λ t. t && list_all p (drop (i + 1) xs)) fail) ∙ sym (ap (list_all p) (split_items xs i a within is)) ∙ so_far
+
+pub each_done : {X : Type 0} (p : X → Bool) (xs : List X) (i : ℕ) (all : Bool) → length xs ≤ i → list_all p (drop i xs) ≡ all → true ≡ all
+each_done p xs i all past so_far = sym (ap (list_all p) (drop_all i xs past)) ∙ so_far
+
 -- ---- what marks tell
 
 pub length_marks : (xs : List ℕ) (marks : List Bool) → length (mark_all xs marks) ≡ length marks

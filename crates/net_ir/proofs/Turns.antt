@@ -33,14 +33,14 @@ use Rattle.net_ir.proofs.Marking.{split_items, marked_at, length_marks, same_tes
 
 -- ---- tests
 
-and_true : (a b : Bool) → a ≡ true → b ≡ true → (a && b) ≡ true
+pub and_true : (a b : Bool) → a ≡ true → b ≡ true → (a && b) ≡ true
 and_true a b p q = cc
 
-and_front : (a b : Bool) → (a && b) ≡ true → a ≡ true
+pub and_front : (a b : Bool) → (a && b) ≡ true → a ≡ true
 and_front true b h = refl
 and_front false b h = h
 
-and_back : (a b : Bool) → (a && b) ≡ true → b ≡ true
+pub and_back : (a b : Bool) → (a && b) ≡ true → b ≡ true
 and_back true b h = h
 and_back false b h = cc
 
@@ -76,17 +76,17 @@ or_right : (a b : Bool) → b ≡ true → (a || b) ≡ true
 or_right true b h = refl
 or_right false b h = h
 
-not_true : (t : Bool) → not t ≡ true → t ≡ false
+pub not_true : (t : Bool) → not t ≡ true → t ≡ false
 not_true false h = refl
 not_true true h = cc
 
-true_not : (t : Bool) → t ≡ false → not t ≡ true
+pub true_not : (t : Bool) → t ≡ false → not t ≡ true
 true_not t h = ap not h
 
 -- a test that fails wherever another does
 false_by : (a b : Bool) → (b ≡ true → a ≡ true) → a ≡ false → b ≡ false
-false_by a true holds no = absurd (let clash : true ≡ false = sym (holds refl) ∙ no in cc)
-false_by a false holds no = refl
+false_by a true holds fails = absurd (let clash : true ≡ false = sym (holds refl) ∙ fails in cc)
+false_by a false holds fails = refl
 
 lt_true : (a b : ℕ) → a < b → nat_lt a b ≡ true
 lt_true a b h = grind (arith, nat_tests)
@@ -112,10 +112,10 @@ stands_past n x (y ∷ xs) within past =
 -- what holds of each of them holds of one that stands there
 stands_all : (P : ℕ → Type 0) (x : ℕ) (xs : List ℕ) → AllByRecursion P xs → stands_in x xs ≡ true → P x
 stands_all P x [] all stands = absurd (let clash : false ≡ true = stands in cc)
-stands_all P x (y ∷ xs) all stands = by_case (or_either (y == x) (stands_in x xs) stands) where
-  by_case : ((y == x) ≡ true) ⊎ (stands_in x xs ≡ true) → P x
-  by_case (inl here) = subst P (same_from_test y x here) all.0
-  by_case (inr later) = stands_all P x xs all.1 later
+stands_all P x (y ∷ xs) all stands = by_case (stands_all P x xs all.1) (or_either (y == x) (stands_in x xs) stands) where
+  by_case : (stands_in x xs ≡ true → P x) → ((y == x) ≡ true) ⊎ (stands_in x xs ≡ true) → P x
+  by_case rest (inl here) = subst P (same_from_test y x here) all.0
+  by_case rest (inr later) = rest later
 
 within_or_past : (a b : ℕ) → (a < b) ⊎ (b ≤ a)
 within_or_past a b = decide (nat_lt a b) refl where
@@ -181,10 +181,10 @@ any_first ws (t ∷ ts) x bits there =
 
 any_bit : (ws : List ℕ) (ts : List Target) (x k : ℕ) → list_any (λ t. writes_bit ws t x k) ts ≡ true → stands_in x (named_by ts) ≡ true
 any_bit ws [] x k hits = hits
-any_bit ws (t ∷ ts) x k hits = stands_both x (var_list (target_var t)) (named_by ts) ∙ by_case (or_either (writes_bit ws t x k) (list_any (λ t. writes_bit ws t x k) ts) hits) where
-  by_case : (writes_bit ws t x k ≡ true) ⊎ (list_any (λ t. writes_bit ws t x k) ts ≡ true) → (stands_in x (var_list (target_var t)) || stands_in x (named_by ts)) ≡ true
-  by_case (inl here) = or_left (stands_in x (var_list (target_var t))) (stands_in x (named_by ts)) (named_bit ws t x k here)
-  by_case (inr later) = or_right (stands_in x (var_list (target_var t))) (stands_in x (named_by ts)) (any_bit ws ts x k later)
+any_bit ws (t ∷ ts) x k hits = stands_both x (var_list (target_var t)) (named_by ts) ∙ by_case (any_bit ws ts x k) (or_either (writes_bit ws t x k) (list_any (λ t. writes_bit ws t x k) ts) hits) where
+  by_case : (list_any (λ t. writes_bit ws t x k) ts ≡ true → stands_in x (named_by ts) ≡ true) → (writes_bit ws t x k ≡ true) ⊎ (list_any (λ t. writes_bit ws t x k) ts ≡ true) → (stands_in x (var_list (target_var t)) || stands_in x (named_by ts)) ≡ true
+  by_case rest (inl here) = or_left (stands_in x (var_list (target_var t))) (stands_in x (named_by ts)) (named_bit ws t x k here)
+  by_case rest (inr later) = or_right (stands_in x (var_list (target_var t))) (stands_in x (named_by ts)) (rest later)
 
 all_within : (ws : List ℕ) (ts : List Target) → AllByRecursion (IsThere ws) ts → Within (length ws) (named_by ts)
 all_within ws [] there = tt
@@ -411,7 +411,7 @@ all_get P [] i x all is = absurd (let clash : None ≡ Some x = is in cc)
 all_get P (y ∷ xs) zero x all is = subst P (let same : Some y ≡ Some x = is in cc) all.0
 all_get P (y ∷ xs) (suc i) x all is = all_get P xs i x all.1 is
 
-width_is : (vars : List Var) (x : ℕ) (v : Var) → slice_get vars x ≡ Some v → slice_index (widths_of vars) x ≡ v.width
+pub width_is : (vars : List Var) (x : ℕ) (v : Var) → slice_get vars x ≡ Some v → slice_index (widths_of vars) x ≡ v.width
 width_is vars x v is = get_or-map (λ (w : Var). w.width) vars x v 0 (slice_get_within vars x v is) ∙ ap (λ (w : Var). w.width) (get_or_from_slice_get vars x v v is)
 
 -- variables with initial values have bits
@@ -420,9 +420,9 @@ have_bits vars has x within = by_case (slice_get_cases vars x).1 where
   by_case : ((v : Var) × (x < length vars) × (slice_get vars x ≡ Some v) × (get_or vars x v ≡ v)) ⊎ ((length vars ≤ x) × (slice_get vars x ≡ None)) → 0 < slice_index (widths_of vars) x
   by_case (inl found) =
       let v = found.0 in
-      let same : v.init.width ≡ v.width = all_get (λ (w : Var). w.init.width ≡ w.width) vars x v has found.2.0 in
+      let same : v.init.width ≡ v.width = all_get (λ (w : Var). w.init.width ≡ w.width) vars x v has found.2 in
       let one : 1 ≤ v.init.width = v.init.positive in
-      subst (λ n. 0 < n) (sym (width_is vars x v found.2.0)) (omega arith)
+      subst (λ n. 0 < n) (sym (width_is vars x v found.2)) (omega arith)
   by_case (inr past) =
       let far : length vars ≤ x = past.0 in
       let near : x < length vars = subst (λ n. x < n) (length-map vars (λ v. v.width)) within in
