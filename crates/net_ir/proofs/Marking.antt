@@ -1,16 +1,14 @@
 -- Marks of variables, and the loops that set and read them.
-use Rattle.std.proofs.Common.{◌≡◌, ℕ, zero, suc, ◌<◌, ◌≤◌, ◌+◌, List, [], ◌∷◌, ◌++◌, length, map, drop, get_or, Bool, true, false, refl, sym, ◌∙◌, ap, subst, arith, add-one, drop-cons, inl, inr}
-use Rattle.std.specs.Prelude.{not, ◌&&◌, ◌||◌, ◌==◌, nat_lt, slice_index_or, slice_set, replicate, ◌⊎◌}
-use Rattle.std.specs.List.{flat_map, list_all, list_any}
+use Rattle.std.proofs.Common.{◌≡◌, ℕ, zero, suc, ◌<◌, ◌≤◌, ◌+◌, List, [], ◌∷◌, ◌++◌, length, drop, get_or, Bool, true, false, refl, sym, ◌∙◌, ap, subst, arith, add-one, drop-cons, inl, inr}
+use Rattle.std.specs.Prelude.{◌&&◌, ◌||◌, ◌==◌, slice_index_or, slice_set, replicate, ◌⊎◌}
+use Rattle.std.specs.List.{flat_map, list_all}
 use Rattle.std.proofs.lemmas.Bool.Decides.{nat_tests}
-use Rattle.std.proofs.lemmas.List.{get_or-set_same, get_or-set_other, get_or_past, drop_all, length-set, length-replicate}
+use Rattle.std.proofs.lemmas.List.{get_or-set_same, get_or-set_other, drop_all, length-set, length-replicate}
 use Rattle.std.proofs.lemmas.List.Folds.{list_all-append, flat_map-map}
 use Rattle.std.proofs.lemmas.List.Concat.{flat_map-append}
-use Rattle.sv_base.specs.declared.refusal.Place.{Place}
 use Rattle.bit_ops.specs.declared.operation.Op.{Op}
-use Rattle.bit_ops.specs.declared.value.Bits.{Bits}
-use Rattle.net_ir.specs.declared.term.Term.{Term, Const, Read, Apply}
-use Rattle.net_ir.specs.declared.term.Term.TheVariants.{outs-Const, outs-Read, outs-Apply}
+use Rattle.net_ir.specs.declared.term.Term.{Term, Apply}
+use Rattle.net_ir.specs.declared.term.Term.TheVariants.{outs-Apply}
 use Rattle.net_ir.specs.declared.term.Term.TheFolds.{map-Term, fold_out-Term}
 use Rattle.net_ir.specs.declared.design.Target.{Target}
 use Rattle.net_ir.specs.declared.statement.Stmt.{Stmt, Block, Assign}
@@ -20,24 +18,15 @@ use Rattle.net_ir.specs.Value.{reads_of, reads_of_layer}
 use Rattle.net_ir.specs.Statement.{targets_of, targets_of_layer, statement_reads, statement_reads_of_layer}
 use Rattle.net_ir.specs.Drive.{target_var, var_list}
 use Rattle.net_ir.specs.Face.{stands_in}
-use Rattle.net_ir.specs.Marks.{mark_all, AreMarksOf, is_clear, named_by}
+use Rattle.net_ir.specs.Marks.{mark_all, AreMarksOf, named_by}
 
 -- ---- what terms and statements read and write
-
-pub reads_const : (b : Bits) → reads_of (Const b) ≡ []
-reads_const b = fold_out-Term (List ℕ) reads_of_layer (Const b) ∙ ap (λ x. reads_of_layer (map-Term Term (List ℕ) reads_of x)) (outs-Const b)
-
-pub reads_read : (var : ℕ) (place : Place) → reads_of (Read var place) ≡ var ∷ []
-reads_read var place = fold_out-Term (List ℕ) reads_of_layer (Read var place) ∙ ap (λ x. reads_of_layer (map-Term Term (List ℕ) reads_of x)) (outs-Read var place)
 
 pub reads_apply : (op : Op) (width lo : ℕ) (args : List Term) → reads_of (Apply op width lo args) ≡ flat_map reads_of args
 reads_apply op width lo args = fold_out-Term (List ℕ) reads_of_layer (Apply op width lo args) ∙ ap (λ x. reads_of_layer (map-Term Term (List ℕ) reads_of x)) (outs-Apply op width lo args) ∙ flat_map-map (λ (reads : List ℕ). reads) reads_of args
 
 pub block_reads : (parts : List Stmt) → statement_reads (Block parts) ≡ flat_map statement_reads parts
 block_reads parts = fold_out-Stmt (List ℕ) statement_reads_of_layer (Block parts) ∙ ap (λ x. statement_reads_of_layer (map-Stmt Stmt (List ℕ) statement_reads x)) (outs-Block parts) ∙ flat_map-map (λ (reads : List ℕ). reads) statement_reads parts
-
-pub assign_reads : (blocking : Bool) (target : Target) (value : Term) → statement_reads (Assign blocking target value) ≡ reads_of value
-assign_reads blocking target value = fold_out-Stmt (List ℕ) statement_reads_of_layer (Assign blocking target value) ∙ ap (λ x. statement_reads_of_layer (map-Stmt Stmt (List ℕ) statement_reads x)) (outs-Assign blocking target value)
 
 pub block_targets : (parts : List Stmt) → targets_of (Block parts) ≡ flat_map targets_of parts
 block_targets parts = fold_out-Stmt (List Target) targets_of_layer (Block parts) ∙ ap (λ x. targets_of_layer (map-Stmt Stmt (List Target) targets_of x)) (outs-Block parts) ∙ flat_map-map (λ (ts : List Target). ts) targets_of parts
@@ -57,7 +46,7 @@ assign_targets blocking target value = fold_out-Stmt (List Target) targets_of_la
 pub split_items : {X : Type 0} (xs : List X) (i : ℕ) (a : X) → i < length xs → a ≡ get_or xs i a → drop i xs ≡ a ∷ drop (i + 1) xs
 split_items xs i a within is = rw (add-one, drop-cons xs i a within) (ap (λ x. x ∷ drop (suc i) xs) (sym is))
 
-pub mark_append : (xs ys : List ℕ) (marks : List Bool) → mark_all (xs ++ ys) marks ≡ mark_all ys (mark_all xs marks)
+mark_append : (xs ys : List ℕ) (marks : List Bool) → mark_all (xs ++ ys) marks ≡ mark_all ys (mark_all xs marks)
 mark_append [] ys marks = refl
 mark_append (x ∷ xs) ys marks = mark_append xs ys (slice_set marks x true)
 
@@ -92,9 +81,6 @@ pub all_done : {X Y : Type 0} (p : Y → Bool) (f : X → List Y) (xs : List X) 
 all_done p f xs i all past so_far = sym (ap (λ ys. list_all p (flat_map f ys)) (drop_all i xs past)) ∙ so_far
 
 -- the same of the items themselves
-pub each_more : {X : Type 0} (p : X → Bool) (xs : List X) (i : ℕ) (a : X) (all : Bool) → i < length xs → a ≡ get_or xs i a → p a ≡ true → list_all p (drop i xs) ≡ all → list_all p (drop (i + 1) xs) ≡ all
-each_more p xs i a all within is pass so_far = sym (ap (λ t. t && list_all p (drop (i + 1) xs)) pass) ∙ sym (ap (list_all p) (split_items xs i a within is)) ∙ so_far
-
 pub each_fails : {X : Type 0} (p : X → Bool) (xs : List X) (i : ℕ) (a : X) (all : Bool) → i < length xs → a ≡ get_or xs i a → p a ≡ false → list_all p (drop i xs) ≡ all → false ≡ all
 each_fails p xs i a all within is fail so_far = sym (ap (λ t. t && list_all p (drop (i + 1) xs)) fail) ∙ sym (ap (list_all p) (split_items xs i a within is)) ∙ so_far
 
@@ -116,7 +102,7 @@ other_test a b h = grind (arith, nat_tests)
 pub same_from_test : (a b : ℕ) → (a == b) ≡ true → a ≡ b
 same_from_test a b h = grind (arith, nat_tests)
 
-pub same_or_other : (a b : ℕ) → (a ≡ b) ⊎ (a ≡ b → ⊥)
+same_or_other : (a b : ℕ) → (a ≡ b) ⊎ (a ≡ b → ⊥)
 same_or_other a b = decide (a == b) refl where
   decide : (t : Bool) → (a == b) ≡ t → (a ≡ b) ⊎ (a ≡ b → ⊥)
   decide true h = inl (same_from_test a b h)
@@ -134,15 +120,15 @@ marked_at [] marks x within = or_none (slice_index_or marks x false) where
   or_none false = refl
 marked_at (y ∷ xs) marks x within =
     marked_at xs (slice_set marks y true) x (subst (λ n. x < n) (sym (length-set marks y true)) within) ∙ by_case (same_or_other y x) where
-  by_case : (y ≡ x) ⊎ (y ≡ x → ⊥) → (slice_index_or (slice_set marks y true) x false || stands_in x xs) ≡ (slice_index_or marks x false || ((y == x) || stands_in x xs))
-  by_case (inl same) =
-      ap (λ t. t || stands_in x xs) (subst (λ z. slice_index_or (slice_set marks y true) z false ≡ true) same (get_or-set_same marks y true false (subst (λ z. z < length marks) (sym same) within)))
-      ∙ sym (ap (λ t. slice_index_or marks x false || (t || stands_in x xs)) (same_test y x same) ∙ or_true (slice_index_or marks x false))
-  by_case (inr other) =
-      ap (λ t. t || stands_in x xs) (get_or-set_other marks y x true false (λ e. other (sym e)))
-      ∙ sym (ap (λ t. slice_index_or marks x false || (t || stands_in x xs)) (other_test y x other))
+      by_case : (y ≡ x) ⊎ (y ≡ x → ⊥) → (slice_index_or (slice_set marks y true) x false || stands_in x xs) ≡ (slice_index_or marks x false || ((y == x) || stands_in x xs))
+      by_case (inl same) =
+          ap (λ t. t || stands_in x xs) (subst (λ z. slice_index_or (slice_set marks y true) z false ≡ true) same (get_or-set_same marks y true false (subst (λ z. z < length marks) (sym same) within)))
+          ∙ sym (ap (λ t. slice_index_or marks x false || (t || stands_in x xs)) (same_test y x same) ∙ or_true (slice_index_or marks x false))
+      by_case (inr other) =
+          ap (λ t. t || stands_in x xs) (get_or-set_other marks y x true false (λ e. other (sym e)))
+          ∙ sym (ap (λ t. slice_index_or marks x false || (t || stands_in x xs)) (other_test y x other))
 
-pub no_marks : (n x : ℕ) → slice_index_or (replicate n false) x false ≡ false
+no_marks : (n x : ℕ) → slice_index_or (replicate n false) x false ≡ false
 no_marks zero x = refl
 no_marks (suc n) zero = refl
 no_marks (suc n) (suc x) = no_marks n x

@@ -1,6 +1,6 @@
 -- Event controls that name inputs of one bit without a mark.
-use Rattle.std.proofs.Common.{◌≡◌, ℕ, List, [], ◌∷◌, length, Bool, true, false, refl, sym, ◌∙◌, ap, subst, Option, None, Some}
-use Rattle.std.specs.Prelude.{not, ◌&&◌, ◌==◌, slice_get, slice_index, slice_index_or, IsTrue, ◌↔◌}
+use Rattle.std.proofs.Common.{◌≡◌, ℕ, List, [], ◌∷◌, length, Bool, true, false, refl, sym, ◌∙◌, ap, Option, None, Some}
+use Rattle.std.specs.Prelude.{◌&&◌, ◌==◌, slice_get, slice_index_or, IsTrue, ◌↔◌}
 use Rattle.std.specs.List.{AllByRecursion, list_all}
 use Rattle.std.proofs.lemmas.Option.{slice_get_within}
 use Rattle.net_ir.specs.declared.design.Role.{Role}
@@ -10,8 +10,7 @@ use Rattle.net_ir.specs.declared.design.Trigger.{Trigger}
 use Rattle.net_ir.specs.declared.design.Driver.{Driver}
 use Rattle.net_ir.specs.declared.design.Driver.TheVariants.{Assign, Clocked}
 use Rattle.net_ir.specs.declared.design.Spec.{Spec}
-use Rattle.net_ir.specs.Value.{widths_of}
-use Rattle.net_ir.specs.Face.{stands_in, all_reads}
+use Rattle.net_ir.specs.Face.{all_reads}
 use Rattle.net_ir.specs.Plain.{IsPlainClock, IsPlainTrigger, HasPlainClocks}
 use Rattle.net_ir.specs.Marks.{AreMarksOf, is_clear, is_input, is_clock_if, is_clock, are_clocks, has_clocks}
 use Rattle.net_ir.proofs.Marking.{same_test, same_from_test}
@@ -75,14 +74,14 @@ driver_complete : (spec : Spec) (read : List Bool) (d : Driver) → AreReadMarks
 driver_complete spec read (Assign target value place) are plain = refl
 driver_complete spec read (Clocked triggers body place) are plain = triggers_complete spec read triggers are plain
 
-pub clocks_sound : (spec : Spec) (read : List Bool) (drivers : List Driver) → AreReadMarks spec read → list_all (has_clocks spec.vars read) drivers ≡ true → AllByRecursion (HasPlainClocks spec) drivers
+clocks_sound : (spec : Spec) (read : List Bool) (drivers : List Driver) → AreReadMarks spec read → list_all (has_clocks spec.vars read) drivers ≡ true → AllByRecursion (HasPlainClocks spec) drivers
 clocks_sound spec read [] are passes = tt
 clocks_sound spec read (d ∷ drivers) are passes = (
   driver_sound spec read d are (and_front (has_clocks spec.vars read d) (list_all (has_clocks spec.vars read) drivers) passes),
   clocks_sound spec read drivers are (and_back (has_clocks spec.vars read d) (list_all (has_clocks spec.vars read) drivers) passes),
 )
 
-pub clocks_complete : (spec : Spec) (read : List Bool) (drivers : List Driver) → AreReadMarks spec read → AllByRecursion (HasPlainClocks spec) drivers → list_all (has_clocks spec.vars read) drivers ≡ true
+clocks_complete : (spec : Spec) (read : List Bool) (drivers : List Driver) → AreReadMarks spec read → AllByRecursion (HasPlainClocks spec) drivers → list_all (has_clocks spec.vars read) drivers ≡ true
 clocks_complete spec read [] are plain = refl
 clocks_complete spec read (d ∷ drivers) are plain =
     and_true (has_clocks spec.vars read d) (list_all (has_clocks spec.vars read) drivers) (driver_complete spec read d are plain.0) (clocks_complete spec read drivers are plain.1)

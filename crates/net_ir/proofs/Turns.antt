@@ -1,12 +1,11 @@
 -- Drivers from the last to the first, with marks of what the later ones write and of what they give at all times.
 use Rattle.std.proofs.Common.{◌≡◌, ℕ, zero, suc, ◌<◌, ◌≤◌, ◌+◌, ◌-◌, List, [], ◌∷◌, ◌++◌, length, map, drop, get_or, Bool, true, false, refl, sym, ◌∙◌, ap, subst, arith, add-one, Option, None, Some, inl, inr}
-use Rattle.std.specs.Prelude.{not, ◌&&◌, ◌||◌, ◌==◌, nat_lt, slice_index, slice_index_or, slice_get, replicate, ◌⊎◌, ⊤}
-use Rattle.std.specs.List.{AllByRecursion, flat_map, list_any, list_all}
+use Rattle.std.specs.Prelude.{not, ◌&&◌, ◌||◌, ◌==◌, nat_lt, slice_index, slice_index_or, slice_get, replicate, ◌⊎◌}
+use Rattle.std.specs.List.{AllByRecursion, flat_map, list_any}
 use Rattle.std.proofs.lemmas.Bool.Decides.{nat_tests}
 use Rattle.std.proofs.lemmas.List.{get_or_past, get_or-map, length-map}
 use Rattle.std.proofs.lemmas.List.Folds.{list_any-append}
 use Rattle.std.proofs.lemmas.Option.{slice_get_cases, slice_get_within, get_or_from_slice_get}
-use Rattle.sv_base.specs.declared.refusal.Place.{Place}
 use Rattle.net_ir.specs.declared.term.Term.{Term}
 use Rattle.net_ir.specs.declared.design.Role.{Role}
 use Rattle.net_ir.specs.declared.design.Role.TheVariants.{Input, Output, Inner}
@@ -20,10 +19,10 @@ use Rattle.net_ir.specs.declared.statement.Stmt.{Stmt, Block}
 use Rattle.net_ir.specs.declared.statement.Stmt.TheVariants.{outs-Block, outs-Assign, rolls-Block, rolls-Assign}
 use Rattle.net_ir.specs.declared.statement.Stmt.TheOpen as layer
 use Rattle.net_ir.specs.declared.statement.Stmt.TheOpen.{Stmt-F}
-use Rattle.net_ir.specs.declared.statement.Stmt.TheViews.{out-Stmt, roll-Stmt}
-use Rattle.net_ir.specs.declared.statement.Stmt.TheFolds.{map-Stmt, fold-roll-Stmt, ind-Stmt, every-Stmt, every_here-Stmt, every_held-Stmt}
+use Rattle.net_ir.specs.declared.statement.Stmt.TheViews.{roll-Stmt}
+use Rattle.net_ir.specs.declared.statement.Stmt.TheFolds.{map-Stmt, ind-Stmt, every-Stmt, every_here-Stmt, every_held-Stmt}
 use Rattle.net_ir.specs.Value.{reads_of, widths_of}
-use Rattle.net_ir.specs.Statement.{targets_of, targets_of_layer}
+use Rattle.net_ir.specs.Statement.{targets_of}
 use Rattle.net_ir.specs.Drive.{target_var, var_list, writes_bit, writes, drives, depends_on, NoneDrives, NoneWrites}
 use Rattle.net_ir.specs.Face.{stands_in}
 use Rattle.net_ir.specs.Plain.{IsWholeTo, IsWholeLayer, HaveInitialValues, IsWhole, IsInput, SparesInputs, IsBefore, AreOrdered}
@@ -124,14 +123,14 @@ within_or_past a b = decide (nat_lt a b) refl where
   decide false h = inr (grind (arith, nat_tests))
 
 -- marks of numbers that are there tell of each number
-pub tell_all : (n : ℕ) (xs : List ℕ) (marks : List Bool) (x : ℕ) → AreMarksOf n xs marks → Within n xs → slice_index_or marks x false ≡ stands_in x xs
+tell_all : (n : ℕ) (xs : List ℕ) (marks : List Bool) (x : ℕ) → AreMarksOf n xs marks → Within n xs → slice_index_or marks x false ≡ stands_in x xs
 tell_all n xs marks x are within = by_case (within_or_past x n) where
   by_case : (x < n) ⊎ (n ≤ x) → slice_index_or marks x false ≡ stands_in x xs
   by_case (inl there) = are.tell x there
   by_case (inr past) = get_or_past marks x false (subst (λ m. m ≤ x) (sym are.each) past) ∙ sym (stands_past n x xs within past)
 
 -- more marks
-pub marks_join : (n : ℕ) (xs ys : List ℕ) (marks after : List Bool) → AreMarksOf n ys marks → after ≡ mark_all xs marks → AreMarksOf n (xs ++ ys) after
+marks_join : (n : ℕ) (xs ys : List ℕ) (marks after : List Bool) → AreMarksOf n ys marks → after ≡ mark_all xs marks → AreMarksOf n (xs ++ ys) after
 marks_join n xs ys marks after are is = record {
   each = ap length is ∙ length_marks xs marks ∙ are.each;
   tell = λ x within.
@@ -150,7 +149,7 @@ abbrev pub IsThere : List ℕ → Target → Type 0
 IsThere ws (Of None name place) = ⊥
 IsThere ws (Of (Some var) name place) = var < length ws
 
-pub whole_there : (ws : List ℕ) (t : Target) (value : Term) → IsWholeTo ws t value → IsThere ws t
+whole_there : (ws : List ℕ) (t : Target) (value : Term) → IsWholeTo ws t value → IsThere ws t
 whole_there ws (Of None name place) value whole = whole
 whole_there ws (Of (Some var) name place) value whole = whole.there
 
@@ -159,9 +158,9 @@ named_first : (ws : List ℕ) (t : Target) (x : ℕ) → HaveBits ws → IsThere
 named_first ws (Of None name place) x bits there = absurd there
 named_first ws (Of (Some var) name place) x bits there =
     ap (λ (b : Bool). (var == x) && b) (lt_true 0 (slice_index ws var) (bits var there)) ∙ and_or (var == x) where
-  and_or : (a : Bool) → (a && true) ≡ (a || false)
-  and_or true = refl
-  and_or false = refl
+      and_or : (a : Bool) → (a && true) ≡ (a || false)
+      and_or true = refl
+      and_or false = refl
 
 named_bit : (ws : List ℕ) (t : Target) (x k : ℕ) → writes_bit ws t x k ≡ true → stands_in x (var_list (target_var t)) ≡ true
 named_bit ws (Of None name place) x k hits = hits
@@ -208,12 +207,12 @@ held_parts Q parts (layer.Block held) is = subst (AllByRecursion (every-Stmt Q))
 held_parts Q parts (layer.Assign blocking target value) is = absurd (cc)
 
 -- each part of a block that is whole is
-pub whole_parts : (ws : List ℕ) (parts : List Stmt) → every-Stmt (IsWholeLayer ws) (Block parts) → AllByRecursion (every-Stmt (IsWholeLayer ws)) parts
+whole_parts : (ws : List ℕ) (parts : List Stmt) → every-Stmt (IsWholeLayer ws) (Block parts) → AllByRecursion (every-Stmt (IsWholeLayer ws)) parts
 whole_parts ws parts whole =
     let all = every_held-Stmt (IsWholeLayer ws) (Block parts) whole in
     held_parts (IsWholeLayer ws) parts all.0 (all.1 ∙ outs-Block parts)
 
-pub whole_assign : (ws : List ℕ) (blocking : Bool) (target : Target) (value : Term) → every-Stmt (IsWholeLayer ws) (stmt.Assign blocking target value) → IsWholeTo ws target value
+whole_assign : (ws : List ℕ) (blocking : Bool) (target : Target) (value : Term) → every-Stmt (IsWholeLayer ws) (stmt.Assign blocking target value) → IsWholeTo ws target value
 whole_assign ws blocking target value whole = (subst (IsWholeLayer ws) (outs-Assign blocking target value) (every_here-Stmt (IsWholeLayer ws) (stmt.Assign blocking target value) whole)).1
 
 there_parts : (ws : List ℕ) (es : List ((s : Stmt) × HasThere ws s)) → AllByRecursion (every-Stmt (IsWholeLayer ws)) (map (λ e. e.0) es) → AllByRecursion (IsThere ws) (flat_map targets_of (map (λ e. e.0) es))
@@ -227,7 +226,7 @@ there_layer ws (layer.Block es) =
 there_layer ws (layer.Assign blocking target value) =
     subst (HasThere ws) (sym (rolls-Assign blocking target value)) (λ whole. subst (AllByRecursion (IsThere ws)) (sym (assign_targets blocking target value)) (whole_there ws target value (whole_assign ws blocking target value whole), tt))
 
-pub whole_targets : (ws : List ℕ) (body : Stmt) → every-Stmt (IsWholeLayer ws) body → AllByRecursion (IsThere ws) (targets_of body)
+whole_targets : (ws : List ℕ) (body : Stmt) → every-Stmt (IsWholeLayer ws) body → AllByRecursion (IsThere ws) (targets_of body)
 whole_targets ws = ind-Stmt (HasThere ws) (λ x y is. subst (λ z. HasThere ws (roll-Stmt z)) is (there_layer ws y))
 
 -- ---- drivers
@@ -363,7 +362,7 @@ turn_settles vars ws (Assign target value at) later written driven wholes are ta
     clear_reads ws (d ∷ later) (mark_all (driven_by d) driven) (reads_of value) wholes (marks_join (length ws) (driven_by d) (flat_map driven_by later) driven (mark_all (driven_by d) driven) are.driven_is refl)
     (and_back (is_free_at vars written (target_var target)) (are_clear (mark_all (driven_by d) driven) (reads_of value)) taken)
 
-pub turn_sound : (vars : List Var) (d : Driver) (later : List Driver) (written driven : List Bool) → AllByRecursion (IsWhole (widths_of vars)) (d ∷ later) → AreTurnMarks (widths_of vars) later written driven → takes_turn vars d written driven ≡ true → SparesInputs vars d × IsBefore (widths_of vars) d later
+turn_sound : (vars : List Var) (d : Driver) (later : List Driver) (written driven : List Bool) → AllByRecursion (IsWhole (widths_of vars)) (d ∷ later) → AreTurnMarks (widths_of vars) later written driven → takes_turn vars d written driven ≡ true → SparesInputs vars d × IsBefore (widths_of vars) d later
 turn_sound vars d later written driven wholes are taken =
     let ws = widths_of vars in
     let free : (x k : ℕ) → writes ws d x k ≡ true → is_free vars written x ≡ true = λ x k hits. stands_all (λ y. is_free vars written y ≡ true) x (written_by d) (turn_frees vars d written driven taken) (writes_named ws d x k hits) in (
@@ -388,7 +387,7 @@ spared_free vars d later written driven x bits wholes are spares before stands =
     (true_not (slice_index_or written x false) (tell_all (length ws) (flat_map written_by later) written x are.written_is (all_written_within ws later wholes.1) ∙ none_named ws later x bits wholes.1 (before.alone x 0 hits)))
     (true_not (input_if (slice_get vars x)) (no_input vars x (slice_get vars x) refl (spares x 0 hits)))
 
-pub turn_complete : (vars : List Var) (d : Driver) (later : List Driver) (written driven : List Bool) → HaveBits (widths_of vars) → AllByRecursion (IsWhole (widths_of vars)) (d ∷ later) → AreTurnMarks (widths_of vars) later written driven → SparesInputs vars d → IsBefore (widths_of vars) d later → takes_turn vars d written driven ≡ true
+turn_complete : (vars : List Var) (d : Driver) (later : List Driver) (written driven : List Bool) → HaveBits (widths_of vars) → AllByRecursion (IsWhole (widths_of vars)) (d ∷ later) → AreTurnMarks (widths_of vars) later written driven → SparesInputs vars d → IsBefore (widths_of vars) d later → takes_turn vars d written driven ≡ true
 turn_complete vars (Clocked triggers body at) later written driven bits wholes are spares before =
     let ws = widths_of vars in
     all_free ws vars written (targets_of body) (whole_targets ws body wholes.0) (λ x stands. spared_free vars (Clocked triggers body at) later written driven x bits wholes are spares before stands)
@@ -415,7 +414,7 @@ pub width_is : (vars : List Var) (x : ℕ) (v : Var) → slice_get vars x ≡ So
 width_is vars x v is = get_or-map (λ (w : Var). w.width) vars x v 0 (slice_get_within vars x v is) ∙ ap (λ (w : Var). w.width) (get_or_from_slice_get vars x v v is)
 
 -- variables with initial values have bits
-pub have_bits : (vars : List Var) → HaveInitialValues vars → HaveBits (widths_of vars)
+have_bits : (vars : List Var) → HaveInitialValues vars → HaveBits (widths_of vars)
 have_bits vars has x within = by_case (slice_get_cases vars x).1 where
   by_case : ((v : Var) × (x < length vars) × (slice_get vars x ≡ Some v) × (get_or vars x v ≡ v)) ⊎ ((length vars ≤ x) × (slice_get vars x ≡ None)) → 0 < slice_index (widths_of vars) x
   by_case (inl found) =

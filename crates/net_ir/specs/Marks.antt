@@ -57,10 +57,11 @@ abbrev pub is_clock : List Var → List Bool → Option ℕ → Bool
 is_clock vars read None = false
 is_clock vars read (Some x) = is_clock_if (slice_get vars x) (is_clear read x)
 
+-- whether each of these event controls does
 abbrev pub are_clocks : List Var → List Bool → List Trigger → Bool
 are_clocks vars read triggers = list_all (λ (t : Trigger). is_clock vars read t.var) triggers
 
--- whether each event control of a driver does
+-- whether each event control of a driver does; a continuous assignment has none
 abbrev pub has_clocks : List Var → List Bool → Driver → Bool
 has_clocks vars read (Assign target value place) = true
 has_clocks vars read (Clocked triggers body place) = are_clocks vars read triggers

@@ -11,6 +11,7 @@ use Rattle.net_ir.specs.Statement.{targets_of}
 use Rattle.net_ir.specs.Drive.{target_var, var_list}
 use Rattle.net_ir.specs.Marks.{mark_all, named_by, is_clear, is_input}
 
+-- whether a variable, if it is there, is set from outside
 abbrev pub input_if : Option Var → Bool
 input_if None = false
 input_if (Some v) = is_input v.role
@@ -42,7 +43,8 @@ abbrev pub driven_by : Driver → List ℕ
 driven_by (Assign target value at) = var_list (target_var target)
 driven_by (Clocked triggers body at) = []
 
--- whether a driver may stand before those that made the marks
+-- whether a driver may stand before those that made the marks: its variables are free, and a continuous assignment reads
+-- nothing that it or they give at all times
 abbrev pub takes_turn : List Var → Driver → List Bool → List Bool → Bool
 takes_turn vars (Assign target value at) written driven = is_free_at vars written (target_var target) && are_clear (mark_all (var_list (target_var target)) driven) (reads_of value)
 takes_turn vars (Clocked triggers body at) written driven = are_free vars written (targets_of body)

@@ -50,12 +50,7 @@ fn can_be_taken_in_order(alloc: Global, spec: &Spec) -> Result<bool, AllocError>
 
 /// Marks what a driver writes as written, and what it gives at all times as driven. Tells whether its targets were no
 /// inputs and not written before, and whether what it gives at all times depends on nothing that is driven now.
-fn take_turn(
-    driver: &Driver,
-    vars: &[Var],
-    written: &mut Vec<bool>,
-    driven: &mut Vec<bool>,
-) -> bool
+fn take_turn(driver: &Driver, vars: &[Var], written: &mut Vec<bool>, driven: &mut Vec<bool>) -> bool
     ensures written { written.new.items ≡ mark_all (written_by driver.now) written.old.items }
     ensures driven { driven.new.items ≡ mark_all (driven_by driver.now) driven.old.items }
     ensures free { result ≡ takes_turn vars.now driver.now written.old.items driven.old.items }
