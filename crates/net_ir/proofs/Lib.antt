@@ -9,4 +9,6 @@ pub mod Solved
 pub mod Writes
 pub mod LawfulReads
 pub mod Idle
+pub mod Marking
 pub mod Turns
+pub mod PlainClocks

@@ -1,156 +1,305 @@
--- Drivers from the last to the first, with a mark for each variable that a later one writes.
-use Rattle.std.proofs.Common.{◌≡◌, ℕ, zero, suc, ◌<◌, ◌≤◌, ◌+◌, ◌-◌, List, [], ◌∷◌, ◌++◌, length, map, drop, get_or, Bool, true, false, refl, sym, ◌∙◌, ap, subst, arith, add-one, drop-cons, Option, None, Some, inl, inr}
-use Rattle.std.specs.Prelude.{not, ◌&&◌, ◌||◌, ◌==◌, nat_lt, slice_index, slice_index_or, slice_get, slice_set, replicate, ◌⊎◌}
-use Rattle.std.specs.List.{AllByRecursion, flat_map}
-use Rattle.std.proofs.lemmas.List.{get_or-set_same, get_or-set_other, drop_all, length-set, length-replicate}
-use Rattle.std.proofs.lemmas.List.Folds.{list_all-append}
-use Rattle.sv_base.specs.declared.refusal.Place.{Place}
-use Rattle.bit_ops.specs.declared.operation.Op.{Op}
-use Rattle.bit_ops.specs.declared.value.Bits.{Bits}
-use Rattle.net_ir.specs.declared.term.Term.{Term, Const, Read, Apply}
-use Rattle.net_ir.specs.declared.term.Term.TheVariants.{outs-Const, outs-Read, outs-Apply}
-use Rattle.net_ir.specs.declared.term.Term.TheFolds.{map-Term, fold_out-Term}
-use Rattle.net_ir.specs.Value.{reads_of, reads_of_layer, widths_of}
+-- Drivers from the last to the first, with marks of what the later ones write and of what they give at all times.
+use Rattle.std.proofs.Common.{◌≡◌, ℕ, zero, suc, ◌<◌, ◌≤◌, ◌+◌, ◌-◌, List, [], ◌∷◌, ◌++◌, length, map, drop, get_or, Bool, true, false, refl, sym, ◌∙◌, ap, subst, arith, add-one, Option, None, Some, inl, inr}
+use Rattle.std.specs.Prelude.{not, ◌&&◌, ◌||◌, ◌==◌, nat_lt, slice_index, slice_index_or, slice_get, replicate, ◌⊎◌}
+use Rattle.std.specs.List.{AllByRecursion, flat_map, list_any}
+use Rattle.std.proofs.lemmas.Bool.Decides.{nat_tests}
+use Rattle.std.proofs.lemmas.List.{get_or_past, get_or-map, length-map}
+use Rattle.std.proofs.lemmas.List.Folds.{list_any-append}
+use Rattle.std.proofs.lemmas.Option.{slice_get_cases, slice_get_within, get_or_from_slice_get}
+use Rattle.net_ir.specs.declared.term.Term.{Term}
 use Rattle.net_ir.specs.declared.design.Role.{Role}
-use Rattle.net_ir.specs.declared.design.Role.TheVariants.{Input, Output}
+use Rattle.net_ir.specs.declared.design.Role.TheVariants.{Input, Output, Inner}
 use Rattle.net_ir.specs.declared.design.Var.{Var}
+use Rattle.net_ir.specs.declared.design.Target.{Target}
 use Rattle.net_ir.specs.declared.design.Target.TheVariants.{Of}
 use Rattle.net_ir.specs.declared.design.Driver.{Driver}
-use Rattle.net_ir.specs.declared.design.Driver.TheVariants.{Assign}
-use Rattle.net_ir.specs.Drive.{writes}
-use Rattle.net_ir.specs.Plain.{HaveInitialValues, IsWhole, NoneWrites, IsInput, SparesInputs, IsBefore, AreOrdered}
-use Rattle.net_ir.specs.Turns.{is_input, input_if, is_clear, is_free, are_clear, mark_target, takes_turn}
-use Rattle.std.proofs.lemmas.List.{get_or_past}
-use Rattle.net_ir.proofs.Passes.{all_at}
-use Rattle.net_ir.proofs.Unique.{positive_widths}
-use Rattle.net_ir.proofs.Order.{ArePositive, test_eq, front_of_and, back_of_and, and_of_true, within_or_past, same_or_not, writes_all, writes_no_other, writes_none}
+use Rattle.net_ir.specs.declared.design.Driver.TheVariants.{Assign, Clocked}
+use Rattle.net_ir.specs.declared.statement.Stmt as stmt
+use Rattle.net_ir.specs.declared.statement.Stmt.{Stmt, Block}
+use Rattle.net_ir.specs.declared.statement.Stmt.TheVariants.{outs-Block, outs-Assign, rolls-Block, rolls-Assign}
+use Rattle.net_ir.specs.declared.statement.Stmt.TheOpen as layer
+use Rattle.net_ir.specs.declared.statement.Stmt.TheOpen.{Stmt-F}
+use Rattle.net_ir.specs.declared.statement.Stmt.TheViews.{roll-Stmt}
+use Rattle.net_ir.specs.declared.statement.Stmt.TheFolds.{map-Stmt, ind-Stmt, every-Stmt, every_here-Stmt, every_held-Stmt}
+use Rattle.net_ir.specs.Value.{reads_of, widths_of}
+use Rattle.net_ir.specs.Statement.{targets_of}
+use Rattle.net_ir.specs.Drive.{target_var, var_list, writes_bit, writes, drives, depends_on, NoneDrives, NoneWrites}
+use Rattle.net_ir.specs.Face.{stands_in}
+use Rattle.net_ir.specs.Plain.{IsWholeTo, IsWholeLayer, HaveInitialValues, IsWhole, IsInput, SparesInputs, IsBefore, AreOrdered}
+use Rattle.net_ir.specs.Marks.{mark_all, AreMarksOf, is_clear, is_input, named_by}
+use Rattle.net_ir.specs.Turns.{input_if, is_free, is_free_at, are_free, are_clear, written_by, driven_by, takes_turn}
+use Rattle.net_ir.proofs.Marking.{split_items, marked_at, length_marks, same_test, other_test, same_from_test, marks_tell, block_targets, assign_targets}
 
--- ---- what terms read
+-- ---- tests
 
-pub reads_const : (b : Bits) → reads_of (Const b) ≡ []
-reads_const b = fold_out-Term (List ℕ) reads_of_layer (Const b) ∙ ap (λ x. reads_of_layer (map-Term Term (List ℕ) reads_of x)) (outs-Const b)
+pub and_true : (a b : Bool) → a ≡ true → b ≡ true → (a && b) ≡ true
+and_true a b p q = cc
 
-pub reads_read : (var : ℕ) (place : Place) → reads_of (Read var place) ≡ var ∷ []
-reads_read var place = fold_out-Term (List ℕ) reads_of_layer (Read var place) ∙ ap (λ x. reads_of_layer (map-Term Term (List ℕ) reads_of x)) (outs-Read var place)
+pub and_front : (a b : Bool) → (a && b) ≡ true → a ≡ true
+and_front true b h = refl
+and_front false b h = h
 
-pub reads_apply : (op : Op) (width lo : ℕ) (args : List Term) → reads_of (Apply op width lo args) ≡ flat_map (λ reads. reads) (map reads_of args)
-reads_apply op width lo args = fold_out-Term (List ℕ) reads_of_layer (Apply op width lo args) ∙ ap (λ x. reads_of_layer (map-Term Term (List ℕ) reads_of x)) (outs-Apply op width lo args)
+pub and_back : (a b : Bool) → (a && b) ≡ true → b ≡ true
+and_back true b h = h
+and_back false b h = cc
 
--- ---- the loop over operands
+or_none : (a : Bool) → (a || false) ≡ a
+or_none true = refl
+or_none false = refl
 
-abbrev pub rest_reads : List Term → List ℕ
-rest_reads args = flat_map (λ reads. reads) (map reads_of args)
+or_front : (a b : Bool) → (a || b) ≡ false → a ≡ false
+or_front false b h = refl
+or_front true b h = absurd (cc)
 
-clear_both : (marks : List Bool) (xs ys : List ℕ) → are_clear marks (xs ++ ys) ≡ (are_clear marks xs && are_clear marks ys)
-clear_both marks xs ys = list_all-append (λ x. is_clear marks x) xs ys
-
-pub split_args : (args : List Term) (i : ℕ) (a : Term) → i < length args → a ≡ get_or args i a → drop i args ≡ a ∷ drop (i + 1) args
-split_args args i a within is = rw (add-one, drop-cons args i a within) (ap (λ x. x ∷ drop (suc i) args) (sym is))
-
--- one operand more that reads no marked variable
-pub clear_more : (marks : List Bool) (args : List Term) (i : ℕ) (a : Term) (all : Bool) → i < length args → a ≡ get_or args i a → are_clear marks (reads_of a) ≡ true → are_clear marks (rest_reads (drop i args)) ≡ all → are_clear marks (rest_reads (drop (i + 1) args)) ≡ all
-clear_more marks args i a all within is clear so_far =
-    sym (ap (λ t. t && are_clear marks (rest_reads (drop (i + 1) args))) clear)
-    ∙ sym (clear_both marks (reads_of a) (rest_reads (drop (i + 1) args)))
-    ∙ sym (ap (λ xs. are_clear marks (rest_reads xs)) (split_args args i a within is))
-    ∙ so_far
-
--- an operand that reads one
-pub clear_fails : (marks : List Bool) (args : List Term) (i : ℕ) (a : Term) (all : Bool) → i < length args → a ≡ get_or args i a → are_clear marks (reads_of a) ≡ false → are_clear marks (rest_reads (drop i args)) ≡ all → false ≡ all
-clear_fails marks args i a all within is marked so_far =
-    sym (ap (λ t. t && are_clear marks (rest_reads (drop (i + 1) args))) marked)
-    ∙ sym (clear_both marks (reads_of a) (rest_reads (drop (i + 1) args)))
-    ∙ sym (ap (λ xs. are_clear marks (rest_reads xs)) (split_args args i a within is))
-    ∙ so_far
-
-pub clear_all : (marks : List Bool) (args : List Term) (i : ℕ) (all : Bool) → length args ≤ i → are_clear marks (rest_reads (drop i args)) ≡ all → true ≡ all
-clear_all marks args i all past so_far = sym (ap (λ xs. are_clear marks (rest_reads xs)) (drop_all i args past)) ∙ so_far
-
--- ---- marks
-
--- whether a driver of the list writes bit 0 of a variable, and so the variable
-abbrev pub any_writes : List ℕ → List Driver → ℕ → Bool
-any_writes ws [] x = false
-any_writes ws (d ∷ drivers) x = writes ws d x 0 || any_writes ws drivers x
-
--- the marks are those of the drivers
-pub record AreMarks (ws : List ℕ) (drivers : List Driver) (marks : List Bool) : Type 0 where
-  pub each : length marks ≡ length ws
-  pub marked : (x : ℕ) → x < length ws → slice_index_or marks x false ≡ any_writes ws drivers x
-
-or_false : (a b : Bool) → (a || b) ≡ false → (a ≡ false) × (b ≡ false)
-or_false false b h = (refl, h)
-or_false true b h = absurd (cc)
+or_back : (a b : Bool) → (a || b) ≡ false → b ≡ false
+or_back false b h = h
+or_back true b h = absurd (cc)
 
 false_or : (a b : Bool) → a ≡ false → b ≡ false → (a || b) ≡ false
 false_or a b p q = cc
 
-pub none_from_any : (ws : List ℕ) (drivers : List Driver) (x : ℕ) → any_writes ws drivers x ≡ false → NoneWrites ws drivers x 0
-none_from_any ws [] x clear = tt
-none_from_any ws (d ∷ drivers) x clear = let both = or_false (writes ws d x 0) (any_writes ws drivers x) clear in (both.0, none_from_any ws drivers x both.1)
+or_swap : (a b : Bool) → (a || b) ≡ (b || a)
+or_swap true true = refl
+or_swap true false = refl
+or_swap false true = refl
+or_swap false false = refl
 
-pub any_from_none : (ws : List ℕ) (drivers : List Driver) (x : ℕ) → NoneWrites ws drivers x 0 → any_writes ws drivers x ≡ false
-any_from_none ws [] x none = refl
-any_from_none ws (d ∷ drivers) x none = false_or (writes ws d x 0) (any_writes ws drivers x) none.0 (any_from_none ws drivers x none.1)
+or_either : (a b : Bool) → (a || b) ≡ true → (a ≡ true) ⊎ (b ≡ true)
+or_either true b h = inl refl
+or_either false b h = inr h
 
--- no whole assignment of a list that does not write bit 0 of a variable writes a bit of it
-none_at : (ws : List ℕ) (drivers : List Driver) (x k : ℕ) → ArePositive ws → AllByRecursion (IsWhole ws) drivers → NoneWrites ws drivers x 0 → NoneWrites ws drivers x k
-none_at ws [] x k positive wholes none = tt
-none_at ws (d ∷ drivers) x k positive wholes none = (writes_none ws d x k positive wholes.0 none.0, none_at ws drivers x k positive wholes.1 none.1)
+or_left : (a b : Bool) → a ≡ true → (a || b) ≡ true
+or_left a b h = ap (λ t. t || b) h
 
--- nothing writes what isn't there
-any_past : (ws : List ℕ) (drivers : List Driver) (x : ℕ) → AllByRecursion (IsWhole ws) drivers → length ws ≤ x → any_writes ws drivers x ≡ false
-any_past ws [] x wholes past = refl
-any_past ws (Assign (Of None name place) value at ∷ drivers) x wholes past = absurd wholes.0
-any_past ws (Assign (Of (Some var) name place) value at ∷ drivers) x wholes past =
-    false_or ((var == x) && nat_lt 0 (slice_index ws var)) (any_writes ws drivers x)
-    (writes_no_other ws var x 0 (λ same. let there : var < length ws = wholes.0.there in omega arith))
-    (any_past ws drivers x wholes.1 past)
+or_right : (a b : Bool) → b ≡ true → (a || b) ≡ true
+or_right true b h = refl
+or_right false b h = h
 
-marks_everywhere : (ws : List ℕ) (drivers : List Driver) (marks : List Bool) (x : ℕ) → AllByRecursion (IsWhole ws) drivers → AreMarks ws drivers marks → slice_index_or marks x false ≡ any_writes ws drivers x
-marks_everywhere ws drivers marks x wholes are = by_case (within_or_past x (length ws)) where
-  by_case : (x < length ws) ⊎ (length ws ≤ x) → slice_index_or marks x false ≡ any_writes ws drivers x
-  by_case (inl within) = are.marked x within
-  by_case (inr past) = get_or_past marks x false (subst (λ n. n ≤ x) (sym are.each) past) ∙ sym (any_past ws drivers x wholes past)
-
--- a driver's turn leaves the marks of it and the later ones
-pub marks_after : (ws : List ℕ) (var : ℕ) (name : List ℕ) (place : Place) (value : Term) (at : Place) (later : List Driver) (marks : List Bool) → ArePositive ws → var < length ws → AreMarks ws later marks → AreMarks ws (Assign (Of (Some var) name place) value at ∷ later) (slice_set marks var true)
-marks_after ws var name place value at later marks positive there are = record {
-  each = length-set marks var true ∙ are.each;
-  marked = λ x within. by_case x within (same_or_not var x);
-} where
-  by_case : (x : ℕ) → x < length ws → (var ≡ x) ⊎ (var ≡ x → ⊥) → slice_index_or (slice_set marks var true) x false ≡ (((var == x) && nat_lt 0 (slice_index ws var)) || any_writes ws later x)
-  by_case x within (inl same) =
-      subst (λ y. slice_index_or (slice_set marks var true) y false ≡ (((var == y) && nat_lt 0 (slice_index ws var)) || any_writes ws later y)) same
-      (get_or-set_same marks var true false (subst (λ n. var < n) (sym are.each) there)
-      ∙ sym (ap (λ t. t || any_writes ws later var) (writes_all ws var 0 (positive var there))))
-  by_case x within (inr other) =
-      get_or-set_other marks var x true false (λ e. other (sym e)) ∙ are.marked x within
-      ∙ sym (ap (λ t. t || any_writes ws later x) (writes_no_other ws var x 0 other))
-
--- ---- a turn
-
-not_true : (t : Bool) → not t ≡ true → t ≡ false
+pub not_true : (t : Bool) → not t ≡ true → t ≡ false
 not_true false h = refl
 not_true true h = cc
 
-true_not : (t : Bool) → t ≡ false → not t ≡ true
+pub true_not : (t : Bool) → t ≡ false → not t ≡ true
 true_not t h = ap not h
 
--- what nothing marks nothing writes
-clear_reads : (ws : List ℕ) (drivers : List Driver) (marks : List Bool) (xs : List ℕ) → ArePositive ws → AllByRecursion (IsWhole ws) drivers → AreMarks ws drivers marks → are_clear marks xs ≡ true → AllByRecursion (λ x. (k : ℕ) → NoneWrites ws drivers x k) xs
-clear_reads ws drivers marks [] positive wholes are clear = tt
-clear_reads ws drivers marks (x ∷ xs) positive wholes are clear =
-    let here : slice_index_or marks x false ≡ false = not_true (slice_index_or marks x false) (front_of_and (is_clear marks x) (are_clear marks xs) clear) in
-    let none : NoneWrites ws drivers x 0 = none_from_any ws drivers x (sym (marks_everywhere ws drivers marks x wholes are) ∙ here) in
-    ((λ k. none_at ws drivers x k positive wholes none), clear_reads ws drivers marks xs positive wholes are (back_of_and (is_clear marks x) (are_clear marks xs) clear))
+-- a test that fails wherever another does
+false_by : (a b : Bool) → (b ≡ true → a ≡ true) → a ≡ false → b ≡ false
+false_by a true holds fails = absurd (let clash : true ≡ false = sym (holds refl) ∙ fails in cc)
+false_by a false holds fails = refl
 
--- what nothing writes nothing marks
-reads_clear : (ws : List ℕ) (drivers : List Driver) (marks : List Bool) (xs : List ℕ) → AllByRecursion (IsWhole ws) drivers → AreMarks ws drivers marks → AllByRecursion (λ x. (k : ℕ) → NoneWrites ws drivers x k) xs → are_clear marks xs ≡ true
-reads_clear ws drivers marks [] wholes are none = refl
-reads_clear ws drivers marks (x ∷ xs) wholes are none =
-    let here : is_clear marks x ≡ true = true_not (slice_index_or marks x false) (marks_everywhere ws drivers marks x wholes are ∙ any_from_none ws drivers x (none.0 0)) in
-    and_of_true (is_clear marks x) (are_clear marks xs) here (reads_clear ws drivers marks xs wholes are none.1)
+lt_true : (a b : ℕ) → a < b → nat_lt a b ≡ true
+lt_true a b h = grind (arith, nat_tests)
+
+-- ---- numbers in lists
+
+-- each of the numbers is below n
+abbrev pub Within : ℕ → List ℕ → Type 0
+Within n xs = AllByRecursion (λ x. x < n) xs
+
+within_both : (n : ℕ) (xs ys : List ℕ) → Within n xs → Within n ys → Within n (xs ++ ys)
+within_both n [] ys a b = b
+within_both n (x ∷ xs) ys a b = (a.0, within_both n xs ys a.1 b)
+
+stands_both : (x : ℕ) (xs ys : List ℕ) → stands_in x (xs ++ ys) ≡ (stands_in x xs || stands_in x ys)
+stands_both x xs ys = list_any-append (λ y. y == x) xs ys
+
+stands_past : (n x : ℕ) (xs : List ℕ) → Within n xs → n ≤ x → stands_in x xs ≡ false
+stands_past n x [] within past = refl
+stands_past n x (y ∷ xs) within past =
+    false_or (y == x) (stands_in x xs) (other_test y x (λ same. let below : y < n = within.0 in omega arith)) (stands_past n x xs within.1 past)
+
+-- what holds of each of them holds of one that stands there
+stands_all : (P : ℕ → Type 0) (x : ℕ) (xs : List ℕ) → AllByRecursion P xs → stands_in x xs ≡ true → P x
+stands_all P x [] all stands = absurd (let clash : false ≡ true = stands in cc)
+stands_all P x (y ∷ xs) all stands = by_case (stands_all P x xs all.1) (or_either (y == x) (stands_in x xs) stands) where
+  by_case : (stands_in x xs ≡ true → P x) → ((y == x) ≡ true) ⊎ (stands_in x xs ≡ true) → P x
+  by_case rest (inl here) = subst P (same_from_test y x here) all.0
+  by_case rest (inr later) = rest later
+
+within_or_past : (a b : ℕ) → (a < b) ⊎ (b ≤ a)
+within_or_past a b = decide (nat_lt a b) refl where
+  decide : (t : Bool) → nat_lt a b ≡ t → (a < b) ⊎ (b ≤ a)
+  decide true h = inl (grind (arith, nat_tests))
+  decide false h = inr (grind (arith, nat_tests))
+
+-- marks of numbers that are there tell of each number
+tell_all : (n : ℕ) (xs : List ℕ) (marks : List Bool) (x : ℕ) → AreMarksOf n xs marks → Within n xs → slice_index_or marks x false ≡ stands_in x xs
+tell_all n xs marks x are within = by_case (within_or_past x n) where
+  by_case : (x < n) ⊎ (n ≤ x) → slice_index_or marks x false ≡ stands_in x xs
+  by_case (inl there) = are.tell x there
+  by_case (inr past) = get_or_past marks x false (subst (λ m. m ≤ x) (sym are.each) past) ∙ sym (stands_past n x xs within past)
+
+-- more marks
+marks_join : (n : ℕ) (xs ys : List ℕ) (marks after : List Bool) → AreMarksOf n ys marks → after ≡ mark_all xs marks → AreMarksOf n (xs ++ ys) after
+marks_join n xs ys marks after are is = record {
+  each = ap length is ∙ length_marks xs marks ∙ are.each;
+  tell = λ x within.
+      ap (λ m. slice_index_or m x false) is ∙ marked_at xs marks x (subst (λ k. x < k) (sym are.each) within)
+      ∙ ap (λ t. t || stands_in x xs) (are.tell x within) ∙ or_swap (stands_in x ys) (stands_in x xs) ∙ sym (stands_both x xs ys);
+}
+
+-- ---- targets
+
+-- each variable has a bit
+abbrev pub HaveBits : List ℕ → Type 0
+HaveBits ws = (x : ℕ) → x < length ws → 0 < slice_index ws x
+
+-- a target names a variable that is there
+abbrev pub IsThere : List ℕ → Target → Type 0
+IsThere ws (Of None name place) = ⊥
+IsThere ws (Of (Some var) name place) = var < length ws
+
+whole_there : (ws : List ℕ) (t : Target) (value : Term) → IsWholeTo ws t value → IsThere ws t
+whole_there ws (Of None name place) value whole = whole
+whole_there ws (Of (Some var) name place) value whole = whole.there
+
+-- whether it writes bit 0 of a variable is whether it names that
+named_first : (ws : List ℕ) (t : Target) (x : ℕ) → HaveBits ws → IsThere ws t → writes_bit ws t x 0 ≡ stands_in x (var_list (target_var t))
+named_first ws (Of None name place) x bits there = absurd there
+named_first ws (Of (Some var) name place) x bits there =
+    ap (λ (b : Bool). (var == x) && b) (lt_true 0 (slice_index ws var) (bits var there)) ∙ and_or (var == x) where
+      and_or : (a : Bool) → (a && true) ≡ (a || false)
+      and_or true = refl
+      and_or false = refl
+
+named_bit : (ws : List ℕ) (t : Target) (x k : ℕ) → writes_bit ws t x k ≡ true → stands_in x (var_list (target_var t)) ≡ true
+named_bit ws (Of None name place) x k hits = hits
+named_bit ws (Of (Some var) name place) x k hits = or_left (var == x) false (and_front (var == x) (nat_lt k (slice_index ws var)) hits)
+
+there_within : (ws : List ℕ) (t : Target) → IsThere ws t → Within (length ws) (var_list (target_var t))
+there_within ws (Of None name place) there = tt
+there_within ws (Of (Some var) name place) there = (there, tt)
+
+-- the same of several targets
+any_first : (ws : List ℕ) (ts : List Target) (x : ℕ) → HaveBits ws → AllByRecursion (IsThere ws) ts → list_any (λ t. writes_bit ws t x 0) ts ≡ stands_in x (named_by ts)
+any_first ws [] x bits there = refl
+any_first ws (t ∷ ts) x bits there =
+    ap (λ b. b || list_any (λ t. writes_bit ws t x 0) ts) (named_first ws t x bits there.0)
+    ∙ ap (λ b. stands_in x (var_list (target_var t)) || b) (any_first ws ts x bits there.1)
+    ∙ sym (stands_both x (var_list (target_var t)) (named_by ts))
+
+any_bit : (ws : List ℕ) (ts : List Target) (x k : ℕ) → list_any (λ t. writes_bit ws t x k) ts ≡ true → stands_in x (named_by ts) ≡ true
+any_bit ws [] x k hits = hits
+any_bit ws (t ∷ ts) x k hits = stands_both x (var_list (target_var t)) (named_by ts) ∙ by_case (any_bit ws ts x k) (or_either (writes_bit ws t x k) (list_any (λ t. writes_bit ws t x k) ts) hits) where
+  by_case : (list_any (λ t. writes_bit ws t x k) ts ≡ true → stands_in x (named_by ts) ≡ true) → (writes_bit ws t x k ≡ true) ⊎ (list_any (λ t. writes_bit ws t x k) ts ≡ true) → (stands_in x (var_list (target_var t)) || stands_in x (named_by ts)) ≡ true
+  by_case rest (inl here) = or_left (stands_in x (var_list (target_var t))) (stands_in x (named_by ts)) (named_bit ws t x k here)
+  by_case rest (inr later) = or_right (stands_in x (var_list (target_var t))) (stands_in x (named_by ts)) (rest later)
+
+all_within : (ws : List ℕ) (ts : List Target) → AllByRecursion (IsThere ws) ts → Within (length ws) (named_by ts)
+all_within ws [] there = tt
+all_within ws (t ∷ ts) there = within_both (length ws) (var_list (target_var t)) (named_by ts) (there_within ws t there.0) (all_within ws ts there.1)
+
+-- ---- the targets of a statement
+
+all_both : {X : Type 0} (P : X → Type 0) (xs ys : List X) → AllByRecursion P xs → AllByRecursion P ys → AllByRecursion P (xs ++ ys)
+all_both P [] ys a b = b
+all_both P (x ∷ xs) ys a b = (a.0, all_both P xs ys a.1 b)
+
+abbrev HasThere : List ℕ → Stmt → Type 0
+HasThere ws s = every-Stmt (IsWholeLayer ws) s → AllByRecursion (IsThere ws) (targets_of s)
+
+held_all : (Q : Stmt-F Stmt → Type 0) (es : List ((s : Stmt) × every-Stmt Q s)) → AllByRecursion (every-Stmt Q) (map (λ e. e.0) es)
+held_all Q [] = tt
+held_all Q (e ∷ es) = (e.1, held_all Q es)
+
+held_parts : (Q : Stmt-F Stmt → Type 0) (parts : List Stmt) (y : Stmt-F ((s : Stmt) × every-Stmt Q s)) → map-Stmt ((s : Stmt) × every-Stmt Q s) Stmt (λ e. e.0) y ≡ layer.Block parts → AllByRecursion (every-Stmt Q) parts
+held_parts Q parts (layer.Block held) is = subst (AllByRecursion (every-Stmt Q)) (let same : layer.Block (map (λ (e : (s : Stmt) × every-Stmt Q s). e.0) held) ≡ layer.Block parts = is in cc) (held_all Q held)
+held_parts Q parts (layer.Assign blocking target value) is = absurd (cc)
+
+-- each part of a block that is whole is
+whole_parts : (ws : List ℕ) (parts : List Stmt) → every-Stmt (IsWholeLayer ws) (Block parts) → AllByRecursion (every-Stmt (IsWholeLayer ws)) parts
+whole_parts ws parts whole =
+    let all = every_held-Stmt (IsWholeLayer ws) (Block parts) whole in
+    held_parts (IsWholeLayer ws) parts all.0 (all.1 ∙ outs-Block parts)
+
+whole_assign : (ws : List ℕ) (blocking : Bool) (target : Target) (value : Term) → every-Stmt (IsWholeLayer ws) (stmt.Assign blocking target value) → IsWholeTo ws target value
+whole_assign ws blocking target value whole = (subst (IsWholeLayer ws) (outs-Assign blocking target value) (every_here-Stmt (IsWholeLayer ws) (stmt.Assign blocking target value) whole)).1
+
+there_parts : (ws : List ℕ) (es : List ((s : Stmt) × HasThere ws s)) → AllByRecursion (every-Stmt (IsWholeLayer ws)) (map (λ e. e.0) es) → AllByRecursion (IsThere ws) (flat_map targets_of (map (λ e. e.0) es))
+there_parts ws [] whole = tt
+there_parts ws (e ∷ es) whole = all_both (IsThere ws) (targets_of e.0) (flat_map targets_of (map (λ e. e.0) es)) (e.1 whole.0) (there_parts ws es whole.1)
+
+there_layer : (ws : List ℕ) (y : Stmt-F ((s : Stmt) × HasThere ws s)) → HasThere ws (roll-Stmt (map-Stmt ((s : Stmt) × HasThere ws s) Stmt (λ e. e.0) y))
+there_layer ws (layer.Block es) =
+    let parts = map (λ (e : (s : Stmt) × HasThere ws s). e.0) es in
+    subst (HasThere ws) (sym (rolls-Block parts)) (λ whole. subst (AllByRecursion (IsThere ws)) (sym (block_targets parts)) (there_parts ws es (whole_parts ws parts whole)))
+there_layer ws (layer.Assign blocking target value) =
+    subst (HasThere ws) (sym (rolls-Assign blocking target value)) (λ whole. subst (AllByRecursion (IsThere ws)) (sym (assign_targets blocking target value)) (whole_there ws target value (whole_assign ws blocking target value whole), tt))
+
+whole_targets : (ws : List ℕ) (body : Stmt) → every-Stmt (IsWholeLayer ws) body → AllByRecursion (IsThere ws) (targets_of body)
+whole_targets ws = ind-Stmt (HasThere ws) (λ x y is. subst (λ z. HasThere ws (roll-Stmt z)) is (there_layer ws y))
+
+-- ---- drivers
+
+writes_first : (ws : List ℕ) (d : Driver) (x : ℕ) → HaveBits ws → IsWhole ws d → writes ws d x 0 ≡ stands_in x (written_by d)
+writes_first ws (Assign target value place) x bits whole = named_first ws target x bits (whole_there ws target value whole)
+writes_first ws (Clocked triggers body place) x bits whole = any_first ws (targets_of body) x bits (whole_targets ws body whole)
+
+writes_named : (ws : List ℕ) (d : Driver) (x k : ℕ) → writes ws d x k ≡ true → stands_in x (written_by d) ≡ true
+writes_named ws (Assign target value place) x k hits = named_bit ws target x k hits
+writes_named ws (Clocked triggers body place) x k hits = any_bit ws (targets_of body) x k hits
+
+drives_first : (ws : List ℕ) (d : Driver) (x : ℕ) → HaveBits ws → IsWhole ws d → drives ws d x 0 ≡ stands_in x (driven_by d)
+drives_first ws (Assign target value place) x bits whole = named_first ws target x bits (whole_there ws target value whole)
+drives_first ws (Clocked triggers body place) x bits whole = refl
+
+drives_named : (ws : List ℕ) (d : Driver) (x k : ℕ) → drives ws d x k ≡ true → stands_in x (driven_by d) ≡ true
+drives_named ws (Assign target value place) x k hits = named_bit ws target x k hits
+drives_named ws (Clocked triggers body place) x k hits = hits
+
+written_within : (ws : List ℕ) (d : Driver) → IsWhole ws d → Within (length ws) (written_by d)
+written_within ws (Assign target value place) whole = there_within ws target (whole_there ws target value whole)
+written_within ws (Clocked triggers body place) whole = all_within ws (targets_of body) (whole_targets ws body whole)
+
+driven_within : (ws : List ℕ) (d : Driver) → IsWhole ws d → Within (length ws) (driven_by d)
+driven_within ws (Assign target value place) whole = there_within ws target (whole_there ws target value whole)
+driven_within ws (Clocked triggers body place) whole = tt
+
+-- ---- lists of drivers
+
+all_written_within : (ws : List ℕ) (ds : List Driver) → AllByRecursion (IsWhole ws) ds → Within (length ws) (flat_map written_by ds)
+all_written_within ws [] wholes = tt
+all_written_within ws (d ∷ ds) wholes = within_both (length ws) (written_by d) (flat_map written_by ds) (written_within ws d wholes.0) (all_written_within ws ds wholes.1)
+
+all_driven_within : (ws : List ℕ) (ds : List Driver) → AllByRecursion (IsWhole ws) ds → Within (length ws) (flat_map driven_by ds)
+all_driven_within ws [] wholes = tt
+all_driven_within ws (d ∷ ds) wholes = within_both (length ws) (driven_by d) (flat_map driven_by ds) (driven_within ws d wholes.0) (all_driven_within ws ds wholes.1)
+
+-- none writes what none names
+none_writes : (ws : List ℕ) (ds : List Driver) (x k : ℕ) → stands_in x (flat_map written_by ds) ≡ false → NoneWrites ws ds x k
+none_writes ws [] x k clear = tt
+none_writes ws (d ∷ ds) x k clear =
+    let both : (stands_in x (written_by d) || stands_in x (flat_map written_by ds)) ≡ false = sym (stands_both x (written_by d) (flat_map written_by ds)) ∙ clear in (
+      false_by (stands_in x (written_by d)) (writes ws d x k) (writes_named ws d x k) (or_front (stands_in x (written_by d)) (stands_in x (flat_map written_by ds)) both),
+      none_writes ws ds x k (or_back (stands_in x (written_by d)) (stands_in x (flat_map written_by ds)) both),
+    )
+
+none_named : (ws : List ℕ) (ds : List Driver) (x : ℕ) → HaveBits ws → AllByRecursion (IsWhole ws) ds → NoneWrites ws ds x 0 → stands_in x (flat_map written_by ds) ≡ false
+none_named ws [] x bits wholes none = refl
+none_named ws (d ∷ ds) x bits wholes none =
+    stands_both x (written_by d) (flat_map written_by ds)
+    ∙ false_or (stands_in x (written_by d)) (stands_in x (flat_map written_by ds)) (sym (writes_first ws d x bits wholes.0) ∙ none.0) (none_named ws ds x bits wholes.1 none.1)
+
+none_drives : (ws : List ℕ) (ds : List Driver) (x k : ℕ) → stands_in x (flat_map driven_by ds) ≡ false → NoneDrives ws ds x k
+none_drives ws [] x k clear = tt
+none_drives ws (d ∷ ds) x k clear =
+    let both : (stands_in x (driven_by d) || stands_in x (flat_map driven_by ds)) ≡ false = sym (stands_both x (driven_by d) (flat_map driven_by ds)) ∙ clear in (
+      false_by (stands_in x (driven_by d)) (drives ws d x k) (drives_named ws d x k) (or_front (stands_in x (driven_by d)) (stands_in x (flat_map driven_by ds)) both),
+      none_drives ws ds x k (or_back (stands_in x (driven_by d)) (stands_in x (flat_map driven_by ds)) both),
+    )
+
+none_driven : (ws : List ℕ) (ds : List Driver) (x : ℕ) → HaveBits ws → AllByRecursion (IsWhole ws) ds → NoneDrives ws ds x 0 → stands_in x (flat_map driven_by ds) ≡ false
+none_driven ws [] x bits wholes none = refl
+none_driven ws (d ∷ ds) x bits wholes none =
+    stands_both x (driven_by d) (flat_map driven_by ds)
+    ∙ false_or (stands_in x (driven_by d)) (stands_in x (flat_map driven_by ds)) (sym (drives_first ws d x bits wholes.0) ∙ none.0) (none_driven ws ds x bits wholes.1 none.1)
+
+-- ---- a turn
+
+-- the marks of both kinds are those of the drivers
+pub record AreTurnMarks (ws : List ℕ) (drivers : List Driver) (written driven : List Bool) : Type 0 where
+  pub written_is : AreMarksOf (length ws) (flat_map written_by drivers) written
+  pub driven_is : AreMarksOf (length ws) (flat_map driven_by drivers) driven
 
 -- an input by its role
 input_at : (vars : List Var) (x : ℕ) → IsInput vars x → input_if (slice_get vars x) ≡ true
@@ -161,72 +310,137 @@ no_input vars x None is inner = refl
 no_input vars x (Some v) is inner = by_role v.role refl where
   by_role : (r : Role) → v.role ≡ r → is_input r ≡ false
   by_role Output e = refl
+  by_role Inner e = refl
   by_role Input e = absurd (inner (v, is, e))
 
-pub turn_sound : (vars : List Var) (d : Driver) (later : List Driver) (marks : List Bool) → ArePositive (widths_of vars) → IsWhole (widths_of vars) d → AllByRecursion (IsWhole (widths_of vars)) later → AreMarks (widths_of vars) later marks → takes_turn vars d marks ≡ true → SparesInputs vars d × IsBefore (widths_of vars) d later
-turn_sound vars (Assign (Of None name place) value at) later marks positive whole wholes are taken = absurd whole
-turn_sound vars (Assign (Of (Some var) name place) value at) later marks positive whole wholes are taken =
+free_named : (vars : List Var) (marks : List Bool) (t : Target) → is_free_at vars marks (target_var t) ≡ true → AllByRecursion (λ x. is_free vars marks x ≡ true) (var_list (target_var t))
+free_named vars marks (Of None name place) free = tt
+free_named vars marks (Of (Some var) name place) free = (free, tt)
+
+free_all : (vars : List Var) (marks : List Bool) (ts : List Target) → are_free vars marks ts ≡ true → AllByRecursion (λ x. is_free vars marks x ≡ true) (named_by ts)
+free_all vars marks [] free = tt
+free_all vars marks (t ∷ ts) free =
+    all_both (λ x. is_free vars marks x ≡ true) (var_list (target_var t)) (named_by ts)
+    (free_named vars marks t (and_front (is_free_at vars marks (target_var t)) (are_free vars marks ts) free))
+    (free_all vars marks ts (and_back (is_free_at vars marks (target_var t)) (are_free vars marks ts) free))
+
+-- in its turn a driver's variables are free
+turn_frees : (vars : List Var) (d : Driver) (written driven : List Bool) → takes_turn vars d written driven ≡ true → AllByRecursion (λ x. is_free vars written x ≡ true) (written_by d)
+turn_frees vars (Assign target value at) written driven taken = free_named vars written target (and_front (is_free_at vars written (target_var target)) (are_clear (mark_all (var_list (target_var target)) driven) (reads_of value)) taken)
+turn_frees vars (Clocked triggers body at) written driven taken = free_all vars written (targets_of body) taken
+
+named_free : (ws : List ℕ) (vars : List Var) (marks : List Bool) (t : Target) → IsThere ws t → ((x : ℕ) → stands_in x (var_list (target_var t)) ≡ true → is_free vars marks x ≡ true) → is_free_at vars marks (target_var t) ≡ true
+named_free ws vars marks (Of None name place) there free = absurd there
+named_free ws vars marks (Of (Some var) name place) there free = free var (or_left (var == var) false (same_test var var refl))
+
+all_free : (ws : List ℕ) (vars : List Var) (marks : List Bool) (ts : List Target) → AllByRecursion (IsThere ws) ts → ((x : ℕ) → stands_in x (named_by ts) ≡ true → is_free vars marks x ≡ true) → are_free vars marks ts ≡ true
+all_free ws vars marks [] there free = refl
+all_free ws vars marks (t ∷ ts) there free =
+    and_true (is_free_at vars marks (target_var t)) (are_free vars marks ts)
+    (named_free ws vars marks t there.0 (λ x stands. free x (stands_both x (var_list (target_var t)) (named_by ts) ∙ or_left (stands_in x (var_list (target_var t))) (stands_in x (named_by ts)) stands)))
+    (all_free ws vars marks ts there.1 (λ x stands. free x (stands_both x (var_list (target_var t)) (named_by ts) ∙ or_right (stands_in x (var_list (target_var t))) (stands_in x (named_by ts)) stands)))
+
+-- nothing drives what has no mark
+clear_reads : (ws : List ℕ) (ds : List Driver) (marks : List Bool) (xs : List ℕ) → AllByRecursion (IsWhole ws) ds → AreMarksOf (length ws) (flat_map driven_by ds) marks → are_clear marks xs ≡ true → AllByRecursion (λ x. (k : ℕ) → NoneDrives ws ds x k) xs
+clear_reads ws ds marks [] wholes are clear = tt
+clear_reads ws ds marks (x ∷ xs) wholes are clear =
+    let here : slice_index_or marks x false ≡ false = not_true (slice_index_or marks x false) (and_front (is_clear marks x) (are_clear marks xs) clear) in
+    let none : stands_in x (flat_map driven_by ds) ≡ false = sym (tell_all (length ws) (flat_map driven_by ds) marks x are (all_driven_within ws ds wholes)) ∙ here in
+    ((λ k. none_drives ws ds x k none), clear_reads ws ds marks xs wholes are (and_back (is_clear marks x) (are_clear marks xs) clear))
+
+-- what nothing drives has no mark
+reads_clear : (ws : List ℕ) (ds : List Driver) (marks : List Bool) (xs : List ℕ) → HaveBits ws → AllByRecursion (IsWhole ws) ds → AreMarksOf (length ws) (flat_map driven_by ds) marks → AllByRecursion (λ x. (k : ℕ) → NoneDrives ws ds x k) xs → are_clear marks xs ≡ true
+reads_clear ws ds marks [] bits wholes are none = refl
+reads_clear ws ds marks (x ∷ xs) bits wholes are none =
+    let here : is_clear marks x ≡ true = true_not (slice_index_or marks x false) (tell_all (length ws) (flat_map driven_by ds) marks x are (all_driven_within ws ds wholes) ∙ none_driven ws ds x bits wholes (none.0 0)) in
+    and_true (is_clear marks x) (are_clear marks xs) here (reads_clear ws ds marks xs bits wholes are none.1)
+
+turn_settles : (vars : List Var) (ws : List ℕ) (d : Driver) (later : List Driver) (written driven : List Bool) → AllByRecursion (IsWhole ws) (d ∷ later) → AreTurnMarks ws later written driven → takes_turn vars d written driven ≡ true → AllByRecursion (λ x. (k : ℕ) → NoneDrives ws (d ∷ later) x k) (depends_on d)
+turn_settles vars ws (Clocked triggers body at) later written driven wholes are taken = tt
+turn_settles vars ws (Assign target value at) later written driven wholes are taken =
+    let d : Driver = Assign target value at in
+    clear_reads ws (d ∷ later) (mark_all (driven_by d) driven) (reads_of value) wholes (marks_join (length ws) (driven_by d) (flat_map driven_by later) driven (mark_all (driven_by d) driven) are.driven_is refl)
+    (and_back (is_free_at vars written (target_var target)) (are_clear (mark_all (driven_by d) driven) (reads_of value)) taken)
+
+turn_sound : (vars : List Var) (d : Driver) (later : List Driver) (written driven : List Bool) → AllByRecursion (IsWhole (widths_of vars)) (d ∷ later) → AreTurnMarks (widths_of vars) later written driven → takes_turn vars d written driven ≡ true → SparesInputs vars d × IsBefore (widths_of vars) d later
+turn_sound vars d later written driven wholes are taken =
     let ws = widths_of vars in
-    let d : Driver = Assign (Of (Some var) name place) value at in
-    let free : is_free vars marks var ≡ true = front_of_and (is_free vars marks var) (are_clear (slice_set marks var true) (reads_of value)) taken in
-    let clear : is_clear marks var ≡ true = front_of_and (is_clear marks var) (not (input_if (slice_get vars var))) free in
-    let fed : input_if (slice_get vars var) ≡ false = not_true (input_if (slice_get vars var)) (back_of_and (is_clear marks var) (not (input_if (slice_get vars var))) free) in
-    let none : NoneWrites ws later var 0 = none_from_any ws later var (sym (are.marked var whole.there) ∙ not_true (slice_index_or marks var false) clear) in (
-      (λ x k writes_it input.
-          let here : var ≡ x = test_eq var x (front_of_and (var == x) (nat_lt k (slice_index ws var)) writes_it) in
-          let clash : true ≡ false = sym (input_at vars x input) ∙ ap (λ y. input_if (slice_get vars y)) (sym here) ∙ fed in
+    let free : (x k : ℕ) → writes ws d x k ≡ true → is_free vars written x ≡ true = λ x k hits. stands_all (λ y. is_free vars written y ≡ true) x (written_by d) (turn_frees vars d written driven taken) (writes_named ws d x k hits) in (
+      (λ x k hits input.
+          let fed : input_if (slice_get vars x) ≡ false = not_true (input_if (slice_get vars x)) (and_back (is_clear written x) (not (input_if (slice_get vars x))) (free x k hits)) in
+          let clash : true ≡ false = sym (input_at vars x input) ∙ fed in
           cc),
       record {
-        alone = λ x k writes_it.
-            let here : var ≡ x = test_eq var x (front_of_and (var == x) (nat_lt k (slice_index ws var)) writes_it) in
-            subst (λ y. NoneWrites ws later y k) here (none_at ws later var k positive wholes none);
-        settled = clear_reads ws (d ∷ later) (slice_set marks var true) (reads_of value) positive (whole, wholes)
-            (marks_after ws var name place value at later marks positive whole.there are)
-            (back_of_and (is_free vars marks var) (are_clear (slice_set marks var true) (reads_of value)) taken);
+        alone = λ x k hits.
+            let clear : slice_index_or written x false ≡ false = not_true (slice_index_or written x false) (and_front (is_clear written x) (not (input_if (slice_get vars x))) (free x k hits)) in
+            none_writes ws later x k (sym (tell_all (length ws) (flat_map written_by later) written x are.written_is (all_written_within ws later wholes.1)) ∙ clear);
+        settled = turn_settles vars ws d later written driven wholes are taken;
       },
     )
 
-pub turn_complete : (vars : List Var) (d : Driver) (later : List Driver) (marks : List Bool) → ArePositive (widths_of vars) → IsWhole (widths_of vars) d → AllByRecursion (IsWhole (widths_of vars)) later → AreMarks (widths_of vars) later marks → SparesInputs vars d → IsBefore (widths_of vars) d later → takes_turn vars d marks ≡ true
-turn_complete vars (Assign (Of None name place) value at) later marks positive whole wholes are spares before = absurd whole
-turn_complete vars (Assign (Of (Some var) name place) value at) later marks positive whole wholes are spares before =
+-- what a driver writes is free, where it spares inputs and no later one writes it
+spared_free : (vars : List Var) (d : Driver) (later : List Driver) (written driven : List Bool) (x : ℕ) → HaveBits (widths_of vars) → AllByRecursion (IsWhole (widths_of vars)) (d ∷ later) → AreTurnMarks (widths_of vars) later written driven → SparesInputs vars d → IsBefore (widths_of vars) d later → stands_in x (written_by d) ≡ true → is_free vars written x ≡ true
+spared_free vars d later written driven x bits wholes are spares before stands =
     let ws = widths_of vars in
-    let d : Driver = Assign (Of (Some var) name place) value at in
-    let hits = writes_all ws var 0 (positive var whole.there) in
-    let clear : is_clear marks var ≡ true = true_not (slice_index_or marks var false) (are.marked var whole.there ∙ any_from_none ws later var (before.alone var 0 hits)) in
-    let fed : input_if (slice_get vars var) ≡ false = no_input vars var (slice_get vars var) refl (spares var 0 hits) in
-    and_of_true (is_free vars marks var) (are_clear (slice_set marks var true) (reads_of value))
-    (and_of_true (is_clear marks var) (not (input_if (slice_get vars var))) clear (true_not (input_if (slice_get vars var)) fed))
-    (reads_clear ws (d ∷ later) (slice_set marks var true) (reads_of value) (whole, wholes) (marks_after ws var name place value at later marks positive whole.there are) before.settled)
+    let hits : writes ws d x 0 ≡ true = writes_first ws d x bits wholes.0 ∙ stands in
+    and_true (is_clear written x) (not (input_if (slice_get vars x)))
+    (true_not (slice_index_or written x false) (tell_all (length ws) (flat_map written_by later) written x are.written_is (all_written_within ws later wholes.1) ∙ none_named ws later x bits wholes.1 (before.alone x 0 hits)))
+    (true_not (input_if (slice_get vars x)) (no_input vars x (slice_get vars x) refl (spares x 0 hits)))
 
-pub turn_marks : (vars : List Var) (d : Driver) (later : List Driver) (marks after : List Bool) → ArePositive (widths_of vars) → IsWhole (widths_of vars) d → AreMarks (widths_of vars) later marks → after ≡ mark_target d marks → AreMarks (widths_of vars) (d ∷ later) after
-turn_marks vars (Assign (Of None name place) value at) later marks after positive whole are is = absurd whole
-turn_marks vars (Assign (Of (Some var) name place) value at) later marks after positive whole are is =
-    subst (λ m. AreMarks (widths_of vars) (Assign (Of (Some var) name place) value at ∷ later) m) (sym is) (marks_after (widths_of vars) var name place value at later marks positive whole.there are)
+turn_complete : (vars : List Var) (d : Driver) (later : List Driver) (written driven : List Bool) → HaveBits (widths_of vars) → AllByRecursion (IsWhole (widths_of vars)) (d ∷ later) → AreTurnMarks (widths_of vars) later written driven → SparesInputs vars d → IsBefore (widths_of vars) d later → takes_turn vars d written driven ≡ true
+turn_complete vars (Clocked triggers body at) later written driven bits wholes are spares before =
+    let ws = widths_of vars in
+    all_free ws vars written (targets_of body) (whole_targets ws body wholes.0) (λ x stands. spared_free vars (Clocked triggers body at) later written driven x bits wholes are spares before stands)
+turn_complete vars (Assign target value at) later written driven bits wholes are spares before =
+    let ws = widths_of vars in
+    let d : Driver = Assign target value at in
+    and_true (is_free_at vars written (target_var target)) (are_clear (mark_all (driven_by d) driven) (reads_of value))
+    (named_free ws vars written target (whole_there ws target value wholes.0) (λ x stands. spared_free vars d later written driven x bits wholes are spares before stands))
+    (reads_clear ws (d ∷ later) (mark_all (driven_by d) driven) (reads_of value) bits wholes (marks_join (length ws) (driven_by d) (flat_map driven_by later) driven (mark_all (driven_by d) driven) are.driven_is refl) before.settled)
 
 -- ---- the loop over the drivers
 
-pub ordered_at : (ws : List ℕ) (drivers : List Driver) (i : ℕ) (d : Driver) → AreOrdered ws drivers → i < length drivers → d ≡ get_or drivers i d → IsBefore ws d (drop (i + 1) drivers)
+all_at : {X : Type 0} (P : X → Type 0) (xs : List X) (i : ℕ) (x : X) → AllByRecursion P xs → i < length xs → x ≡ get_or xs i x → P x
+all_at P [] i x all within is = absurd (omega arith)
+all_at P (y ∷ xs) zero x all within is = subst P (sym is) all.0
+all_at P (y ∷ xs) (suc i) x all within is = all_at P xs i x all.1 (omega arith) is
+
+all_get : {X : Type 0} (P : X → Type 0) (xs : List X) (i : ℕ) (x : X) → AllByRecursion P xs → slice_get xs i ≡ Some x → P x
+all_get P [] i x all is = absurd (let clash : None ≡ Some x = is in cc)
+all_get P (y ∷ xs) zero x all is = subst P (let same : Some y ≡ Some x = is in cc) all.0
+all_get P (y ∷ xs) (suc i) x all is = all_get P xs i x all.1 is
+
+pub width_is : (vars : List Var) (x : ℕ) (v : Var) → slice_get vars x ≡ Some v → slice_index (widths_of vars) x ≡ v.width
+width_is vars x v is = get_or-map (λ (w : Var). w.width) vars x v 0 (slice_get_within vars x v is) ∙ ap (λ (w : Var). w.width) (get_or_from_slice_get vars x v v is)
+
+-- variables with initial values have bits
+have_bits : (vars : List Var) → HaveInitialValues vars → HaveBits (widths_of vars)
+have_bits vars has x within = by_case (slice_get_cases vars x).1 where
+  by_case : ((v : Var) × (x < length vars) × (slice_get vars x ≡ Some v) × (get_or vars x v ≡ v)) ⊎ ((length vars ≤ x) × (slice_get vars x ≡ None)) → 0 < slice_index (widths_of vars) x
+  by_case (inl found) =
+      let v = found.0 in
+      let same : v.init.width ≡ v.width = all_get (λ (w : Var). w.init.width ≡ w.width) vars x v has found.2 in
+      let one : 1 ≤ v.init.width = v.init.positive in
+      subst (λ n. 0 < n) (sym (width_is vars x v found.2)) (omega arith)
+  by_case (inr past) =
+      let far : length vars ≤ x = past.0 in
+      let near : x < length vars = subst (λ n. x < n) (length-map vars (λ v. v.width)) within in
+      absurd (omega arith)
+
+ordered_at : (ws : List ℕ) (drivers : List Driver) (i : ℕ) (d : Driver) → AreOrdered ws drivers → i < length drivers → d ≡ get_or drivers i d → IsBefore ws d (drop (i + 1) drivers)
 ordered_at ws [] i d ordered within is = absurd (omega arith)
 ordered_at ws (e ∷ drivers) zero d ordered within is = subst (λ x. IsBefore ws x drivers) (sym is) ordered.0
 ordered_at ws (e ∷ drivers) (suc i) d ordered within is = subst (λ n. IsBefore ws d (drop n (e ∷ drivers))) (sym (add-one (suc i))) (subst (λ n. IsBefore ws d (drop n drivers)) (add-one i) (ordered_at ws drivers i d ordered.1 (omega arith) is))
 
-pub split_drivers : (drivers : List Driver) (i : ℕ) (d : Driver) → i < length drivers → d ≡ get_or drivers i d → drop i drivers ≡ d ∷ drop (i + 1) drivers
-split_drivers drivers i d within is = rw (add-one, drop-cons drivers i d within) (ap (λ x. x ∷ drop (suc i) drivers) (sym is))
-
-pub all_dropped : {X : Type 0} (P : X → Type 0) (xs : List X) (i : ℕ) → AllByRecursion P xs → AllByRecursion P (drop i xs)
+all_dropped : {X : Type 0} (P : X → Type 0) (xs : List X) (i : ℕ) → AllByRecursion P xs → AllByRecursion P (drop i xs)
 all_dropped P xs zero all = all
 all_dropped P [] (suc i) all = tt
 all_dropped P (x ∷ xs) (suc i) all = all_dropped P xs i all.1
 
-no_marks : (n x : ℕ) → slice_index_or (replicate n false) x false ≡ false
-no_marks zero x = refl
-no_marks (suc n) zero = refl
-no_marks (suc n) (suc x) = no_marks n x
-
-pub first_marks : (ws : List ℕ) (marks : List Bool) (n : ℕ) → marks ≡ replicate n false → n ≡ length ws → AreMarks ws [] marks
-first_marks ws marks n is long = record {
-  each = ap length is ∙ length-replicate n false ∙ long;
-  marked = λ x within. ap (λ m. slice_index_or m x false) is ∙ no_marks n x;
+pub first_marks : (ws : List ℕ) (written driven : List Bool) (n : ℕ) → written ≡ replicate n false → driven ≡ replicate n false → n ≡ length ws → AreTurnMarks ws [] written driven
+first_marks ws written driven n written_clear driven_clear long = record {
+  written_is = subst (λ m. AreMarksOf m [] written) long (marks_tell n [] written written written_clear refl);
+  driven_is = subst (λ m. AreMarksOf m [] driven) long (marks_tell n [] driven driven driven_clear refl);
 }
 
 before_suc : (t : ℕ) → 0 < t → (t - 1) + 1 ≡ t
@@ -234,32 +448,38 @@ before_suc t some = omega arith
 
 split_before : (drivers : List Driver) (t : ℕ) (d : Driver) → 0 < t → t ≤ length drivers → d ≡ get_or drivers (t - 1) d → drop (t - 1) drivers ≡ d ∷ drop t drivers
 split_before drivers t d some within is =
-    split_drivers drivers (t - 1) d (omega arith) is ∙ ap (λ n. d ∷ drop n drivers) (before_suc t some)
+    split_items drivers (t - 1) d (omega arith) is ∙ ap (λ n. d ∷ drop n drivers) (before_suc t some)
 
 -- what holds before a turn
-pub record AreTaken (vars : List Var) (drivers : List Driver) (written : List Bool) : Type 0 where
-  pub marks : AreMarks (widths_of vars) drivers written
+pub record AreTaken (vars : List Var) (drivers : List Driver) (written driven : List Bool) : Type 0 where
+  pub marks : AreTurnMarks (widths_of vars) drivers written driven
   pub spares : AllByRecursion (SparesInputs vars) drivers
   pub ordered : AreOrdered (widths_of vars) drivers
 
 -- one turn more
-pub turn_step : (vars : List Var) (drivers : List Driver) (t : ℕ) (d : Driver) (marks after : List Bool) → HaveInitialValues vars → AllByRecursion (IsWhole (widths_of vars)) drivers → 0 < t → t ≤ length drivers → d ≡ get_or drivers (t - 1) d → AreTaken vars (drop t drivers) marks → takes_turn vars d marks ≡ true → after ≡ mark_target d marks → AreTaken vars (drop (t - 1) drivers) after
-turn_step vars drivers t d marks after has wholes some within is taken takes marked =
-    let positive = positive_widths vars has in
+pub turn_step : (vars : List Var) (drivers : List Driver) (t : ℕ) (d : Driver) (written driven after_written after_driven : List Bool) → AllByRecursion (IsWhole (widths_of vars)) drivers → 0 < t → t ≤ length drivers → d ≡ get_or drivers (t - 1) d → AreTaken vars (drop t drivers) written driven → takes_turn vars d written driven ≡ true → after_written ≡ mark_all (written_by d) written → after_driven ≡ mark_all (driven_by d) driven → AreTaken vars (drop (t - 1) drivers) after_written after_driven
+turn_step vars drivers t d written driven after_written after_driven wholes some within is taken takes marks_written marks_driven =
+    let ws = widths_of vars in
     let later = drop t drivers in
-    let whole : IsWhole (widths_of vars) d = all_at (IsWhole (widths_of vars)) drivers (t - 1) d wholes (omega arith) is in
-    let sound = turn_sound vars d later marks positive whole (all_dropped (IsWhole (widths_of vars)) drivers t wholes) taken.marks takes in
-    subst (λ ds. AreTaken vars ds after) (sym (split_before drivers t d some within is)) (record {
-      marks = turn_marks vars d later marks after positive whole taken.marks marked;
+    let split : drop (t - 1) drivers ≡ d ∷ later = split_before drivers t d some within is in
+    let both : AllByRecursion (IsWhole ws) (d ∷ later) = subst (AllByRecursion (IsWhole ws)) split (all_dropped (IsWhole ws) drivers (t - 1) wholes) in
+    let sound = turn_sound vars d later written driven both taken.marks takes in
+    subst (λ ds. AreTaken vars ds after_written after_driven) (sym split) (record {
+      marks = record {
+        written_is = marks_join (length ws) (written_by d) (flat_map written_by later) written after_written taken.marks.written_is marks_written;
+        driven_is = marks_join (length ws) (driven_by d) (flat_map driven_by later) driven after_driven taken.marks.driven_is marks_driven;
+      };
       spares = (sound.0, taken.spares);
       ordered = (sound.1, taken.ordered);
     })
 
 -- a turn that can't be taken
-pub turn_fails : (vars : List Var) (drivers : List Driver) (t : ℕ) (d : Driver) (marks : List Bool) → HaveInitialValues vars → AllByRecursion (IsWhole (widths_of vars)) drivers → 0 < t → t ≤ length drivers → d ≡ get_or drivers (t - 1) d → AreTaken vars (drop t drivers) marks → takes_turn vars d marks ≡ false → AllByRecursion (SparesInputs vars) drivers × AreOrdered (widths_of vars) drivers → ⊥
-turn_fails vars drivers t d marks has wholes some within is taken takes fine =
-    let positive = positive_widths vars has in
-    let whole : IsWhole (widths_of vars) d = all_at (IsWhole (widths_of vars)) drivers (t - 1) d wholes (omega arith) is in
-    let before : IsBefore (widths_of vars) d (drop t drivers) = subst (λ n. IsBefore (widths_of vars) d (drop n drivers)) (before_suc t some) (ordered_at (widths_of vars) drivers (t - 1) d fine.1 (omega arith) is) in
-    let yes : takes_turn vars d marks ≡ true = turn_complete vars d (drop t drivers) marks positive whole (all_dropped (IsWhole (widths_of vars)) drivers t wholes) taken.marks (all_at (SparesInputs vars) drivers (t - 1) d fine.0 (omega arith) is) before in
+pub turn_fails : (vars : List Var) (drivers : List Driver) (t : ℕ) (d : Driver) (written driven : List Bool) → HaveInitialValues vars → AllByRecursion (IsWhole (widths_of vars)) drivers → 0 < t → t ≤ length drivers → d ≡ get_or drivers (t - 1) d → AreTaken vars (drop t drivers) written driven → takes_turn vars d written driven ≡ false → AllByRecursion (SparesInputs vars) drivers × AreOrdered (widths_of vars) drivers → ⊥
+turn_fails vars drivers t d written driven has wholes some within is taken takes fine =
+    let ws = widths_of vars in
+    let later = drop t drivers in
+    let split : drop (t - 1) drivers ≡ d ∷ later = split_before drivers t d some within is in
+    let both : AllByRecursion (IsWhole ws) (d ∷ later) = subst (AllByRecursion (IsWhole ws)) split (all_dropped (IsWhole ws) drivers (t - 1) wholes) in
+    let before : IsBefore ws d later = subst (λ n. IsBefore ws d (drop n drivers)) (before_suc t some) (ordered_at ws drivers (t - 1) d fine.1 (omega arith) is) in
+    let yes : takes_turn vars d written driven ≡ true = turn_complete vars d later written driven (have_bits vars has) both taken.marks (all_at (SparesInputs vars) drivers (t - 1) d fine.0 (omega arith) is) before in
     absurd (let clash : true ≡ false = sym yes ∙ takes in cc)

@@ -8,5 +8,6 @@ pub mod Stepping
 pub mod Idle
 pub mod Plain
 pub mod Pass
+pub mod Marks
 pub mod Turns
 pub mod Trace

@@ -5,6 +5,7 @@
 pub mod design;
 pub mod evaluator;
 pub mod law;
+mod marks;
 pub mod outside;
 pub mod plain;
 pub mod sampling;

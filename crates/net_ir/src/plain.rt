@@ -1,12 +1,17 @@
 //! Whether a design's drivers can be taken in the order of the text.
 
-ghost use Rattle.std.specs.Prelude.{◌≡◌, ◌↔◌, true, IsTrue, IfOk, slice_set};
+ghost use Rattle.std.specs.Prelude.{◌≡◌, ◌↔◌, true, IsTrue, IfOk};
 ghost use Rattle.std.specs.List.{AllByRecursion};
 ghost use Rattle.net_ir.specs.Value.{widths_of, reads_of};
-ghost use Rattle.net_ir.specs.Plain.{HaveInitialValues, IsWhole, SparesInputs, AreOrdered, IsPlain};
-ghost use Rattle.net_ir.specs.Turns.{is_input, is_clear, is_free, are_clear, mark_target, takes_turn};
+ghost use Rattle.net_ir.specs.Statement.{targets_of};
+ghost use Rattle.net_ir.specs.Drive.{target_var};
+ghost use Rattle.net_ir.specs.Plain.{HaveInitialValues, IsWhole, SparesInputs, AreOrdered, HasPlainClocks, IsPlain};
+ghost use Rattle.net_ir.specs.Marks.{mark_all, is_input, is_clock, are_clocks, has_clocks};
+ghost use Rattle.net_ir.specs.Turns.{is_free, is_free_at, are_free, are_clear, written_by, driven_by, takes_turn};
 
-use crate::design::{Driver, Role, Spec, Var};
+use crate::design::{Driver, Role, Spec, Target, Trigger, Var};
+use crate::marks::{is_clear, mark_target, mark_targets, read_marks};
+use crate::statement::Stmt;
 use crate::term::Term;
 use std::alloc::{AllocError, Global};
 
@@ -18,7 +23,10 @@ pub fn is_plain(alloc: Global, spec: &Spec) -> Result<bool, AllocError>
     requires whole { AllByRecursion (IsWhole (widths_of spec.now.vars)) spec.now.drivers }
     ensures { IfOk result (λ yes. IsTrue yes ↔ IsPlain spec.now) }
 {
-    Err(AllocError)
+    if !can_be_taken_in_order(alloc, spec)? {
+        return Ok(false);
+    }
+    have_clocks(alloc, spec)
 }
 
 /// Whether in a design of whole assignments no variable has two drivers, no driver writes an input, and no assignment
@@ -31,30 +39,34 @@ fn can_be_taken_in_order(alloc: Global, spec: &Spec) -> Result<bool, AllocError>
     let vars = spec.vars.as_slice();
     let drivers = spec.drivers.as_slice();
     let mut written = vec![in alloc; false; vars.len()]?;
+    let mut driven = vec![in alloc; false; vars.len()]?;
     for turn in (0..drivers.len()).rev() {
-        if !take_turn(&drivers[turn], vars, &mut written) {
+        if !take_turn(&drivers[turn], vars, &mut written, &mut driven) {
             return Ok(false);
         }
     }
     Ok(true)
 }
 
-/// Marks a driver's target as written, and tells whether it was no input and not marked before, and whether the
-/// driver reads nothing that is marked now.
-fn take_turn(driver: &Driver, vars: &[Var], written: &mut Vec<bool>) -> bool
-    ensures marks { written.new.items ≡ mark_target driver.now written.old.items }
-    ensures free { result ≡ takes_turn vars.now driver.now written.old.items }
+/// Marks what a driver writes as written, and what it gives at all times as driven. Tells whether its targets were no
+/// inputs and not written before, and whether what it gives at all times depends on nothing that is driven now.
+fn take_turn(driver: &Driver, vars: &[Var], written: &mut Vec<bool>, driven: &mut Vec<bool>) -> bool
+    ensures written { written.new.items ≡ mark_all (written_by driver.now) written.old.items }
+    ensures driven { driven.new.items ≡ mark_all (driven_by driver.now) driven.old.items }
+    ensures free { result ≡ takes_turn vars.now driver.now written.old.items driven.old.items }
 {
     match driver {
-        Driver::Assign { target, value, .. } => match target.var() {
-            Some(var) => {
-                let free = is_free(vars, written, var as usize);
-                mark(written, var as usize);
-                free && is_unread(value, written)
-            }
-            None => false,
-        },
-        Driver::Clocked { .. } => false,
+        Driver::Assign { target, value, .. } => {
+            let free = is_free_target(target, vars, written);
+            mark_target(target, written);
+            mark_target(target, driven);
+            free && is_unread(value, driven)
+        }
+        Driver::Clocked { body, .. } => {
+            let free = are_free(body, vars, written);
+            mark_targets(body, written);
+            free
+        }
     }
 }
 
@@ -68,13 +80,6 @@ fn is_input(var: &Var) -> bool
     }
 }
 
-/// Whether a variable has no mark.
-fn is_clear(written: &[bool], var: usize) -> bool
-    ensures { result ≡ is_clear written.now var }
-{
-    !written.get(var).copied().unwrap_or(false)
-}
-
 /// Whether a variable is no input and has no mark.
 fn is_free(vars: &[Var], written: &[bool], var: usize) -> bool
     ensures { result ≡ is_free vars.now written.now var }
@@ -86,29 +91,96 @@ fn is_free(vars: &[Var], written: &[bool], var: usize) -> bool
     is_clear(written, var) && !fed
 }
 
-/// Marks a variable, where it is there.
-fn mark(written: &mut Vec<bool>, var: usize)
-    ensures { written.new.items ≡ slice_set written.old.items var true }
+/// Whether a target names such a variable.
+fn is_free_target(target: &Target, vars: &[Var], written: &[bool]) -> bool
+    ensures { result ≡ is_free_at vars.now written.now (target_var target.now) }
 {
-    if var < written.len() {
-        written[var] = true;
+    match target.var() {
+        Some(var) => is_free(vars, written, var as usize),
+        None => false,
     }
 }
 
-/// Whether a term reads no variable that is marked.
-fn is_unread(term: &Term, written: &[bool]) -> bool
-    ensures { result ≡ are_clear written.now (reads_of term.now) }
+/// Whether each target of a statement does.
+fn are_free(statement: &Stmt, vars: &[Var], written: &[bool]) -> bool
+    ensures { result ≡ are_free vars.now written.now (targets_of statement.now) }
 {
-    match term {
-        Term::Const(_) => true,
-        Term::Read { var, .. } => is_clear(written, *var as usize),
-        Term::Apply { args, .. } => {
-            for arg in args.as_slice() {
-                if !is_unread(arg, written) {
+    match statement {
+        Stmt::Block(parts) => {
+            for part in parts.as_slice() {
+                if !are_free(part, vars, written) {
                     return false;
                 }
             }
             true
         }
+        Stmt::Assign { target, .. } => is_free_target(target, vars, written),
+    }
+}
+
+/// Whether a term reads no variable that is marked.
+fn is_unread(term: &Term, marks: &[bool]) -> bool
+    ensures { result ≡ are_clear marks.now (reads_of term.now) }
+{
+    match term {
+        Term::Const(_) => true,
+        Term::Read { var, .. } => is_clear(marks, *var as usize),
+        Term::Apply { args, .. } => {
+            for arg in args.as_slice() {
+                if !is_unread(arg, marks) {
+                    return false;
+                }
+            }
+            true
+        }
+    }
+}
+
+/// Whether each event control names an input of one bit that no expression reads.
+fn have_clocks(alloc: Global, spec: &Spec) -> Result<bool, AllocError>
+    ensures { IfOk result (λ yes. IsTrue yes ↔ AllByRecursion (HasPlainClocks spec.now) spec.now.drivers) }
+{
+    let read = read_marks(alloc, spec)?;
+    let vars = spec.vars.as_slice();
+    for driver in spec.drivers.as_slice() {
+        if !has_clocks(driver, vars, &read) {
+            return Ok(false);
+        }
+    }
+    Ok(true)
+}
+
+/// Whether each event control of a driver names an input of one bit without a mark.
+fn has_clocks(driver: &Driver, vars: &[Var], read: &[bool]) -> bool
+    ensures { result ≡ has_clocks vars.now read.now driver.now }
+{
+    match driver {
+        Driver::Assign { .. } => true,
+        Driver::Clocked { triggers, .. } => are_clocks(triggers.as_slice(), vars, read),
+    }
+}
+
+/// Whether each of these event controls does.
+fn are_clocks(triggers: &[Trigger], vars: &[Var], read: &[bool]) -> bool
+    ensures { result ≡ are_clocks vars.now read.now triggers.now }
+{
+    for trigger in triggers {
+        if !is_clock(trigger.var, vars, read) {
+            return false;
+        }
+    }
+    true
+}
+
+/// Whether a name means an input of one bit without a mark.
+fn is_clock(var: Option<u32>, vars: &[Var], read: &[bool]) -> bool
+    ensures { result ≡ is_clock vars.now read.now var }
+{
+    match var {
+        Some(clock) => match vars.get(clock as usize) {
+            Some(var) => is_input(var) && var.width == 1 && is_clear(read, clock as usize),
+            None => false,
+        },
+        None => false,
     }
 }

@@ -23,21 +23,22 @@ fine vars vs drivers ds same_vars same_drivers both =
 
 pub loop-turn-init : goal.loop-turn-init
 loop-turn-init c =
-    let falses : c.in_ok-written.written.items ≡ replicate (length c.as_slice-vars.result.now) false = search (rules, common_steps) in
-    subst (λ ds. AreTaken c.as_slice-vars.result.now ds c.in_ok-written.written.items) (sym (drop_all (length c.as_slice-drivers.result.now) c.as_slice-drivers.result.now (le_refl _)))
-    (record { marks = first_marks (widths_of c.as_slice-vars.result.now) c.in_ok-written.written.items (length c.as_slice-vars.result.now) falses (sym (length-map c.as_slice-vars.result.now (λ v. v.width))); spares = tt; ordered = tt })
+    let vars = c.as_slice-vars.result.now in
+    let written : c.in_ok-written.written.items ≡ replicate (length vars) false = search (rules, common_steps) in
+    let driven : c.in_ok-driven.driven.items ≡ replicate (length vars) false = search (rules, common_steps) in
+    subst (λ ds. AreTaken vars ds c.in_ok-written.written.items c.in_ok-driven.driven.items) (sym (drop_all (length c.as_slice-drivers.result.now) c.as_slice-drivers.result.now (le_refl _)))
+    (record { marks = first_marks (widths_of vars) c.in_ok-written.written.items c.in_ok-driven.driven.items (length vars) written driven (sym (length-map vars (λ v. v.width))); spares = tt; ordered = tt })
 
 pub loop-turn-preserved : goal.loop-turn-preserved
 loop-turn-preserved c =
-    turn_step c.as_slice-vars.result.now c.as_slice-drivers.result.now c.loop-turn.turn c.index-drivers-turn.result c.loop-turn.written.items c.take_turn.new.written.items
-    (subst HaveInitialValues (sym c.as_slice-vars.ensures) c.requires.vars)
+    turn_step c.as_slice-vars.result.now c.as_slice-drivers.result.now c.loop-turn.turn c.index-drivers-turn.result c.loop-turn.written.items c.loop-turn.driven.items c.take_turn.new.written.items c.take_turn.new.driven.items
     (wholes c.args.spec.now.vars c.as_slice-vars.result.now c.args.spec.now.drivers c.as_slice-drivers.result.now c.as_slice-vars.ensures c.as_slice-drivers.ensures c.requires.whole)
-    c.loop-turn-test.true c.loop-turn.auto.turn c.index-drivers-turn.is c.loop-turn.invariant (sym c.take_turn.ensures.free ∙ c.if-not-take_turn.false) c.take_turn.ensures.marks
+    c.loop-turn-test.true c.loop-turn.auto.turn c.index-drivers-turn.is c.loop-turn.invariant (sym c.take_turn.ensures.free ∙ c.if-not-take_turn.false) c.take_turn.ensures.written c.take_turn.ensures.driven
 
 pub returns-then-not-take_turn : goal.returns-then-not-take_turn
 returns-then-not-take_turn c = (
   (λ no. absurd (let clash : false ≡ true = no in cc)),
-  (λ both. absurd (turn_fails c.as_slice-vars.result.now c.as_slice-drivers.result.now c.loop-turn.turn c.index-drivers-turn.result c.loop-turn.written.items
+  (λ both. absurd (turn_fails c.as_slice-vars.result.now c.as_slice-drivers.result.now c.loop-turn.turn c.index-drivers-turn.result c.loop-turn.written.items c.loop-turn.driven.items
       (subst HaveInitialValues (sym c.as_slice-vars.ensures) c.requires.vars)
       (wholes c.args.spec.now.vars c.as_slice-vars.result.now c.args.spec.now.drivers c.as_slice-drivers.result.now c.as_slice-vars.ensures c.as_slice-drivers.ensures c.requires.whole)
       c.loop-turn-test.true c.loop-turn.auto.turn c.index-drivers-turn.is c.loop-turn.invariant (sym c.take_turn.ensures.free ∙ c.if-not-take_turn.true)
