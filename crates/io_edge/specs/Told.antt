@@ -14,6 +14,10 @@ Added (Some old) after bytes = after ≡ Some (old ++ bytes)
 abbrev pub AddedFront : Option (List ℕ) → Option (List ℕ) → List ℕ → Type 0
 AddedFront before after bytes = (n : ℕ) × Added before after (take n bytes)
 
+-- a front of these bytes without their last was added at the end
+abbrev pub AddedShort : Option (List ℕ) → Option (List ℕ) → List ℕ → Type 0
+AddedShort before after bytes = (n : ℕ) × (n < length bytes) × Added before after (take n bytes)
+
 -- adding nothing leaves what is told
 pub added_nothing : (told : Option (List ℕ)) → Added told told []
 added_nothing None = refl

@@ -1,6 +1,6 @@
 ghost use Rattle.std.specs.Prelude.{◌≡◌, ◌≤◌, OnOk, OnErr};
 ghost use Rattle.io_edge.specs.Fault.{Rose};
-ghost use Rattle.io_edge.specs.Told.{Added, AddedFront};
+ghost use Rattle.io_edge.specs.Told.{Added, AddedFront, AddedShort};
 
 use crate::folder::Failed;
 use crate::sink::Sink;
@@ -10,6 +10,7 @@ use crate::sink::Sink;
 pub fn offer<K: Sink>(sink: &mut K, piece: &[u8]) -> Result<(), Failed>
     ensures whole { OnOk result (Added (K.written sink.old) (K.written sink.new) piece.now) }
     ensures front { OnErr result (AddedFront (K.written sink.old) (K.written sink.new) piece.now) }
+    ensures short { OnErr result (AddedShort (K.written sink.old) (K.written sink.new) piece.now) }
     ensures failed { OnErr result (Rose (K.faults sink.old) (K.faults sink.new)) }
     ensures later { K.faults sink.old ≤ K.faults sink.new }
 {

@@ -66,19 +66,19 @@ abbrev pub level_words : List Bool → List ℕ
 level_words levels = map level_word levels
 
 -- the ports at these places take these words, and each other port is as before
-pub record Takes (ports : List Port) (places given old new : List ℕ) : Type 0 where
+pub record Takes (places given old new : List ℕ) : Type 0 where
   pub each : length new ≡ length old
   pub taken : at_places new places ≡ given
   pub others : (x : ℕ) → ((i : ℕ) → slice_get places i ≡ Some x → ⊥) → slice_index new x ≡ slice_index old x
 
 -- a data step of a bench: the data inputs take these words, and the registers are kept
 pub record TakesInputs (ports : List Port) (given : List ℕ) (old new : State) : Type 0 where
-  pub inputs : Takes ports (input_places ports) given old.inputs new.inputs
+  pub inputs : Takes (input_places ports) given old.inputs new.inputs
   pub registers : new.registers ≡ old.registers
 
 -- a clock step of a bench: the clocks take these levels, and the registers sample
 pub record TakesLevels (spec : Spec) (given : List ℕ) (old new : State) : Type 0 where
-  pub inputs : Takes (ports_of spec) (clock_places (ports_of spec)) given old.inputs new.inputs
+  pub inputs : Takes (clock_places (ports_of spec)) given old.inputs new.inputs
   pub before : List ℕ
   pub solves : Solves spec old before
   pub samples : Samples spec before old.inputs new.inputs old.registers new.registers

@@ -1,10 +1,11 @@
 //! A design that is played: it is set from outside, step by step, and shows its outputs.
 
-ghost use Rattle.std.specs.Prelude.{◌≡◌, ℕ, ◌+◌, ◌<◌, ◌≤◌, length};
+ghost use Rattle.std.specs.Prelude.{◌≡◌, ℕ, ◌+◌, ◌<◌, ◌≤◌, List, length};
 ghost use Rattle.bit_ops.specs.Lists.{words, widths};
 ghost use Rattle.net_ir.specs.declared.design.Spec.{Spec};
 ghost use Rattle.net_ir.specs.Face.{ports_of};
 ghost use Rattle.net_ir.specs.Run.{State};
+ghost use Rattle.net_ir.specs.Solution.{Solves};
 ghost use Rattle.model_stage.specs.Bench.{input_widths, clock_count, output_places, level_words, TakesInputs, TakesLevels, IsShown};
 
 use bit_ops::Bits;
@@ -41,4 +42,7 @@ pub trait Bench {
     fn out(&self, k: usize) -> Bits
         requires { k < length (output_places (ports_of (design self.now))) }
         ensures { IsShown (design self.now) (state self.now) k result };
+
+    // it is settled: its design has a solution in its state
+    ghost settled: { (bench : Self) → (u : List ℕ) × Solves (design bench) (state bench) u };
 }

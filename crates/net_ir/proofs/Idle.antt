@@ -19,7 +19,7 @@ use Rattle.net_ir.specs.declared.design.Driver.TheVariants.{Assign, Clocked}
 use Rattle.net_ir.specs.declared.design.Spec.{Spec}
 use Rattle.net_ir.specs.Value.{widths_of, val}
 use Rattle.net_ir.specs.Statement.{writes_of, bit_after}
-use Rattle.net_ir.specs.Drive.{gives, writes, driver_reads, driver_clocks, var_list, assigned_bit, writes_bit}
+use Rattle.net_ir.specs.Drive.{driver_reads, driver_clocks, var_list, assigned_bit, writes_bit}
 use Rattle.net_ir.specs.Face.{stands_in, clocks_of, all_reads, input_class, class_of}
 use Rattle.net_ir.specs.Run.{State, edge_at, is_edge, occurs, sampled, all_sampled}
 use Rattle.net_ir.specs.Solution.{Solves, IsDriven, IsHeld}

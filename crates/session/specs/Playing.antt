@@ -1,5 +1,5 @@
 -- What playing a stimulus on a bench writes, and where it leaves the bench.
-use Rattle.std.specs.Prelude.{◌≡◌, ℕ, ◌<◌, ◌≤◌, List, [], ◌∷◌, ◌++◌, length, take, Option, None, Some, ⊤}
+use Rattle.std.specs.Prelude.{◌≡◌, ℕ, ◌<◌, ◌≤◌, List, [], ◌∷◌, ◌++◌, length, take, Option, None, Some, Result, Ok, Err, ⊤}
 use Rattle.io_edge.specs.Fault.{Rose}
 use Rattle.io_edge.specs.Told.{Added, AddedFront}
 use Rattle.sv_base.specs.Steps.{Step}
@@ -28,24 +28,36 @@ abbrev pub Reaches : Spec → State → List Step → State → Type 0
 Reaches spec from [] to = to ≡ from
 Reaches spec from (step ∷ steps) to = (next : State) × Follows spec from step next × Reaches spec next steps to
 
--- Of what is due up to the line of the last of some steps, a front was added that has all lines before that one: each line was
--- offered, and none after it.
-pub record Offered (spec : Spec) (made : List Step) (due : List ℕ) (before after : Option (List ℕ)) : Type 0 where
-  pub count : ℕ
-  pub within : count ≤ length due
-  pub added : Added before after (take count due)
-  pub earlier : (shorter : List Step) (step : Step) (lines : List ℕ) → made ≡ shorter ++ step ∷ [] → IsTrace spec shorter lines → length lines ≤ count
+-- how far a run has come by its answer: after these steps of a script, before that rest, where so many of the bytes that are due up
+-- to the line of the last of them were added
+abbrev pub HasCome : Result ℕ PlayFault → List Step → List Step → List ℕ → ℕ → Type 0
+HasCome (Ok steps) made rest due count = (rest ≡ []) × (count ≡ length due)
+HasCome (Err (Stimulus line reason word)) made rest due count = (rest ≡ []) × (count ≡ length due)
+HasCome (Err ReadFault) made rest due count = count ≡ length due
+HasCome (Err WriteFault) made rest due count = count < length due
+HasCome (Err NoMemory) made rest due count = (made ≡ []) × (count ≡ 0)
+
+-- all that is due before the line of the last of the steps is no more than this
+abbrev pub ReachesLast : Spec → List Step → ℕ → Type 0
+ReachesLast spec made count =
+    (shorter : List Step) (step : Step) → made ≡ shorter ++ step ∷ [] → (lines : List ℕ) × IsTrace spec shorter lines × (length lines ≤ count)
 
 -- A bench stands behind some first steps of a script, the last of which is the last whose line was offered: its state is the one
--- that they reach, but for idle inputs.
-pub record StandsBehind (spec : Spec) (script : Script) (state : State) (before after : Option (List ℕ)) : Type 0 where
+-- that they reach, but for idle inputs. Of what is due up to that line so much was added as the answer says, and all lines before
+-- it were.
+pub record StandsBehind (spec : Spec) (script : Script) (state : State) (before after : Option (List ℕ)) (answer : Result ℕ PlayFault) : Type 0 where
   pub made : List Step
   pub rest : List Step
   pub parts : script.steps ≡ made ++ rest
   pub reached : State
   pub reaches : Reaches spec (start spec) made reached
   pub idle : DifferInIdle spec state reached
-  pub offered : (due : List ℕ) → IsTrace spec made due → Offered spec made due before after
+  pub due : List ℕ
+  pub trace : IsTrace spec made due
+  pub count : ℕ
+  pub come : HasCome answer made rest due count
+  pub added : Added before after (take count due)
+  pub earlier : ReachesLast spec made count
 
 -- a bad line with this word
 abbrev pub bad_line : ℕ → Reason → List ℕ → BadLine

@@ -42,10 +42,10 @@ pub fn play<B: Bench, S: Source, K: Sink>(
     // where the bench stands
     ensures design { B.design bench.new ≡ B.design bench.old }
     ensures stands { (bytes : List ℕ) → S.left source.old ≡ Some bytes →
-        StandsBehind (B.design bench.old) (script_of face.now.ports max_steps bytes) (B.state bench.new) (K.written out.old) (K.written out.new) }
+        StandsBehind (B.design bench.old) (script_of face.now.ports max_steps bytes) (B.state bench.new) (K.written out.old) (K.written out.new) result }
     // causes
     ensures cause { IfErr result (λ fault. IsPlayCause fault (S.faults source.old) (S.faults source.new) (K.faults out.old) (K.faults out.new)) }
-    ensures memory { IfErr result (λ fault. IsUntouched fault ((S.left source.new ≡ S.left source.old) × (K.written out.new ≡ K.written out.old) × (B.state bench.new ≡ B.state bench.old))) }
+    ensures memory { IfErr result (λ fault. IsUntouched fault ((source.new ≡ source.old) × (out.new ≡ out.old) × (bench.new ≡ bench.old))) }
     ensures ground { S.same_ground source.old source.new }
     ensures source_later { S.faults source.old ≤ S.faults source.new }
     ensures out_later { K.faults out.old ≤ K.faults out.new }
