@@ -1,32 +1,14 @@
 -- What the calls of a bench do to its state, and what it shows.
-use Rattle.std.specs.Prelude.{◌≡◌, ℕ, ◌+◌, Bool, true, false, List, [], ◌∷◌, map, length, Some, slice_get, slice_index, if◌then◌else◌}
+use Rattle.std.specs.Prelude.{◌≡◌, ℕ, ◌+◌, Bool, List, [], ◌∷◌, map, length, Some, slice_get, slice_index, if◌then◌else◌}
 use Rattle.sv_base.specs.declared.face.Class.{Class}
-use Rattle.sv_base.specs.declared.face.Class.TheVariants.{Value, Clock, Idle, Output}
 use Rattle.sv_base.specs.declared.face.Port.{Port}
+use Rattle.sv_base.specs.Classes.{is_value, is_clock, is_output, level_word}
 use Rattle.bit_ops.specs.declared.value.Bits.{Bits}
 use Rattle.net_ir.specs.declared.design.Spec.{Spec}
 use Rattle.net_ir.specs.Face.{ports_of}
 use Rattle.net_ir.specs.Run.{State}
 use Rattle.net_ir.specs.Solution.{Solves}
 use Rattle.net_ir.specs.Stepping.{Samples}
-
-abbrev pub is_value : Class → Bool
-is_value Value = true
-is_value Clock = false
-is_value Idle = false
-is_value Output = false
-
-abbrev pub is_clock : Class → Bool
-is_clock Value = false
-is_clock Clock = true
-is_clock Idle = false
-is_clock Output = false
-
-abbrev pub is_output : Class → Bool
-is_output Value = false
-is_output Clock = false
-is_output Idle = false
-is_output Output = true
 
 -- the places of the ports of some classes, the first port having place n
 abbrev pub places_from : (Class → Bool) → ℕ → List Port → List ℕ
@@ -57,11 +39,7 @@ clock_count ports = length (clock_places ports)
 abbrev pub at_places : List ℕ → List ℕ → List ℕ
 at_places words places = map (λ place. slice_index words place) places
 
--- a level as a word of one bit
-abbrev pub level_word : Bool → ℕ
-level_word false = 0
-level_word true = 1
-
+-- levels as words of one bit
 abbrev pub level_words : List Bool → List ℕ
 level_words levels = map level_word levels
 

@@ -2,3 +2,4 @@ pub mod Kind
 pub mod Spelling
 pub mod Steps
 pub mod TraceText
+pub mod Classes
