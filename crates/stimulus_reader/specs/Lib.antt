@@ -1,2 +1,7 @@
 pub mod Stimulus
 pub mod Reading
+pub mod LineSource
+pub mod LineReading
+pub mod Judging
+pub mod Told
+pub mod Fields

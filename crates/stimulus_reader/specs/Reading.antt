@@ -1,5 +1,6 @@
 -- What a reader of a stimulus has come to, and what it gives.
-use Rattle.std.specs.Prelude.{◌≡◌, ℕ, suc, Bool, true, false, List, [], ◌∷◌, ◌++◌, map, Option, None, Some, Result, Ok, Err, if◌then◌else◌}
+use Rattle.std.specs.Prelude.{◌≡◌, ℕ, ◌<◌, ◌^◌, suc, Bool, true, false, List, [], ◌∷◌, ◌++◌, map, Option, None, Some, Result, Ok, Err, IsTrue, slice_get, ⊤, if◌then◌else◌}
+use Rattle.std.specs.List.{AllByRecursion}
 use Rattle.sv_base.specs.declared.face.Class.{Class}
 use Rattle.sv_base.specs.declared.face.Class.TheVariants as class
 use Rattle.sv_base.specs.declared.face.Port.{Port}
@@ -7,7 +8,10 @@ use Rattle.sv_base.specs.Steps.{Setting, set_all}
 use Rattle.stimulus_reader.specs.declared.reason.Reason.{Reason}
 use Rattle.stimulus_reader.specs.declared.reason.Reason.TheVariants.{NoStep, NoSetting, NoInput, IsClock, NoClock, SetTwice, NoValue, LineTooLong, FileTooLong, TooManySteps}
 use Rattle.stimulus_reader.specs.declared.step.StepKind.{StepKind}
-use Rattle.stimulus_reader.specs.Stimulus.{BadLine, Script, ended, stopped, with_step, lines_of, script_from, step_of}
+use Rattle.stimulus_reader.specs.declared.step.StepFault.{StepFault}
+use Rattle.stimulus_reader.specs.declared.step.StepFault.TheVariants.{Bad, ReadFault}
+use Rattle.io_edge.specs.Fault.{Rose}
+use Rattle.stimulus_reader.specs.Stimulus.{is_input, class_fault, BadLine, Script, ended, stopped, with_step, lines_of, script_from, step_of}
 
 -- how far a reader has come
 pub record Reading : Type 0 where
@@ -33,10 +37,19 @@ at_front ports = record { ports = ports; number = 1; at = 0; kept = []; last = 0
 abbrev pub script_left : Reading → ℕ → List ℕ → Script
 script_left reading more bytes = script_from reading.ports more reading.number reading.at (lines_of (reading.kept ++ bytes))
 
+-- a line of this kind may set a port to a word: it is an input that such a line sets, and its width holds the word
+pub record IsSettable (ports : List Port) (of : StepKind) (setting : Setting) : Type 0 where
+  pub port : Port
+  pub at : slice_get ports setting.port ≡ Some port
+  pub input : is_input port.class ≡ true
+  pub class_fits : class_fault of port.class port.width ≡ None
+  pub word_fits : setting.word < 2 ^ port.width
+
 -- A step of this kind comes next: the reader has its words, and what follows it is what the reader gives from then on. Where no
 -- step more is allowed its line is bad.
 pub record IsStep (before after : Reading) (of : StepKind) (bytes rest : List ℕ) : Type 0 where
   pub settings : List Setting
+  pub settable : AllByRecursion (IsSettable before.ports of) settings
   pub set : after.values ≡ set_all settings before.values
   pub step : (more : ℕ) → script_left before (suc more) bytes ≡ with_step (step_of of settings) (script_left after more rest)
   pub none_left : script_left before 0 bytes ≡ stopped after.last TooManySteps []
@@ -104,3 +117,28 @@ words_of_class chosen (p ∷ ports) (word ∷ words) = if chosen p.class then wo
 abbrev pub level_word : Bool → ℕ
 level_word false = 0
 level_word true = 1
+
+-- ---- clauses of the reader's calls
+
+-- an input stands at this place
+abbrev pub IsInputAt : List Port → ℕ → Type 0
+IsInputAt ports place = (p : Port) × (slice_get ports place ≡ Some p) × IsTrue (is_input p.class)
+
+-- what a call that gives no step tells of the bytes that were left before and after it
+abbrev pub Tells : Reading → Reading → StepFault → List ℕ → List ℕ → Type 0
+Tells before after (Bad line reason) bytes rest = before.bad ≡ None → IsBad before after line reason bytes
+Tells before after ReadFault bytes rest = IsInterrupted before after bytes rest
+
+-- the line that is told as bad is the reader's bad line; a read that failed makes none
+abbrev pub IsTold : Reading → StepFault → Type 0
+IsTold after (Bad line reason) = (bad : BadLine) × (after.bad ≡ Some bad) × (bad.line ≡ line) × (bad.reason ≡ reason) × (after.last ≡ line)
+IsTold after ReadFault = after.bad ≡ None
+
+-- once a line was bad, each call tells it again and changes nothing
+abbrev pub IsToldAgain : Reading → Reading → Result (Option StepKind) StepFault → Type 0
+IsToldAgain before after result = (bad : BadLine) → before.bad ≡ Some bad → (result ≡ Err (Bad bad.line bad.reason)) × (after ≡ before)
+
+-- only a read that failed is told as a fault, of this count of faults
+abbrev pub IsStepCause : StepFault → ℕ → ℕ → Type 0
+IsStepCause (Bad line reason) before now = ⊤
+IsStepCause ReadFault before now = Rose before now

@@ -1,0 +1,4 @@
+pub mod StimulusWords
+pub mod StimulusSettings
+pub mod StimulusLines
+pub mod StimulusBytes
