@@ -1,4 +1,5 @@
 pub mod StimulusWords
+pub mod StimulusParts
 pub mod StimulusSettings
 pub mod StimulusLines
 pub mod StimulusBytes

@@ -1,15 +1,17 @@
 -- What a line asks for.
-use Rattle.std.proofs.Common.{◌≡◌, ℕ, zero, suc, ◌-◌, false, ◌==◌, List, [], ◌∷◌, ◌++◌, length, take, get_or, map, reverse, refl, sym, ap, ◌∙◌, arith, Result, Ok, Err}
-use Rattle.std.specs.List.{AllByRecursion}
+use Rattle.std.proofs.Common.{◌≡◌, ℕ, zero, suc, ◌-◌, false, ◌==◌, List, [], ◌∷◌, ◌++◌, length, take, get_or, map, reverse, refl, sym, ap, subst, ◌∙◌, arith, ◌<◌, Bool, true, ◌||◌, eqb, if◌then◌else◌, inl, inr, ◌⊎◌, Result, Ok, Err}
+use Rattle.std.specs.List.{AllByRecursion, IsDistinct, list_any}
 use Rattle.std.proofs.lemmas.Bool.Decides.{nat_tests}
-use Rattle.std.proofs.lemmas.List.{reverse-append}
+use Rattle.std.proofs.lemmas.List.{reverse-append, length-reverse, length-map}
+use Rattle.std.proofs.lemmas.Map.Steps.{length-le_from_distinct_below}
+use Rattle.stimulus_reader.proofs.StimulusSettings.{any_reversed, any_set}
 use Rattle.sv_base.specs.declared.face.Port.{Port}
 use Rattle.sv_base.specs.Steps.{Setting as Assigned}
 use Rattle.stimulus_reader.specs.declared.step.StepKind.{StepKind}
 use Rattle.stimulus_reader.specs.declared.setting.Setting.{Setting}
 use Rattle.stimulus_reader.specs.declared.setting.BadWord.{BadWord}
 use Rattle.stimulus_reader.specs.Stimulus.{Fault, without_cr, words_of, setting_of, with_setting, after_setting, settings_of, meaning_of_settings, step_of, Stepped, Refused}
-use Rattle.stimulus_reader.specs.LineReading.{setting_seen, settings_seen, ports_set, fault_seen}
+use Rattle.stimulus_reader.specs.LineReading.{setting_seen, settings_seen, ports_set, fault_seen, IsSettable, HasFront}
 
 -- ---- the CR
 
@@ -33,6 +35,22 @@ cr_none (suc n) (x ∷ y ∷ xs) long is = ap (λ (ys : List ℕ). x ∷ ys) (cr
 pub not_empty : (xs : List ℕ) → (length xs == 0) ≡ false → length xs ≡ suc (length xs - 1)
 not_empty [] some = cc
 not_empty (x ∷ xs) some = omega arith
+
+cr_one : (x : ℕ) → HasFront (x ∷ []) (without_cr (x ∷ []))
+cr_one x =
+    elim (x == 13) as (λ b. HasFront (x ∷ []) (if b then [] else x ∷ [])) [
+      | true ↦ record { behind = x ∷ []; is = refl }
+      | false ↦ record { behind = []; is = refl }
+    ]
+
+onto_front : (x : ℕ) (xs front : List ℕ) → HasFront xs front → HasFront (x ∷ xs) (x ∷ front)
+onto_front x xs front f = record { behind = f.behind; is = ap (λ (ys : List ℕ). x ∷ ys) f.is }
+
+-- without its CR a text is a front of it
+pub cr_front : (xs : List ℕ) → HasFront xs (without_cr xs)
+cr_front [] = record { behind = []; is = refl }
+cr_front (x ∷ []) = cr_one x
+cr_front (x ∷ y ∷ xs) = onto_front x (y ∷ xs) (without_cr (y ∷ xs)) (cr_front (y ∷ xs))
 
 -- ---- settings before others
 
@@ -97,3 +115,51 @@ read_bad ports of settings given bad word rest left text words given_is gives_gi
 pub read_whole : (ports : List Port) (of : StepKind) (settings : List Setting) (left text : List ℕ) → words_of left ≡ [] → ReadSoFar ports of settings left text → Stepped (step_of of (settings_seen settings)) ≡ meaning_of_settings of (settings_of ports of [] (words_of text))
 read_whole ports of settings left text words so_far =
     ap (meaning_of_settings of) (sym (all_good (settings_seen settings)) ∙ ap (λ (ws : List (List ℕ)). with_all (settings_seen settings) (settings_of ports of (ports_set settings) ws)) (sym words) ∙ so_far)
+
+-- ---- room for the settings of a line
+
+both_false : (a b : Bool) → (a || b) ≡ false → (a ≡ false) × (b ≡ false)
+both_false true b e = absurd (cc)
+both_false false b e = (refl, e)
+
+none_is : (i : ℕ) (xs : List ℕ) → list_any (λ v. v == i) xs ≡ false → AllByRecursion (λ y. eqb i y ≡ false) xs
+none_is i [] none = tt
+none_is i (x ∷ xs) none =
+    let both = both_false (x == i) (list_any (λ v. v == i) xs) none in
+    let here : (x == i) ≡ false = both.0 in
+    (grind (arith, nat_tests), none_is i xs both.1)
+
+either : (a b : Bool) → (a || b) ≡ true → (a ≡ true) ⊎ (b ≡ true)
+either true b e = inl refl
+either false b e = inr e
+
+below_all : (ports : List Port) (settings : List Setting) (q : ℕ) → AllByRecursion (IsSettable ports) settings → list_any (eqb q) (map (λ (s : Setting). s.port) settings) ≡ true → q < length ports
+below_all ports [] q all is = absurd (cc)
+below_all ports (s ∷ settings) q all is =
+    elim (either (eqb q s.port) (list_any (eqb q) (map (λ (s : Setting). s.port) settings)) is) [
+      | inl here ↦ let same : q ≡ s.port = grind (arith, nat_tests) in let there = all.0.there in omega arith
+      | inr later ↦ below_all ports settings q all.1 later
+    ]
+
+below_some : (ports : List Port) (settings : List Setting) (s : Setting) → AllByRecursion (IsSettable ports) settings → IsSettable ports s → (q : ℕ) → list_any (eqb q) (s.port ∷ ports_set settings) ≡ true → q < length ports
+below_some ports settings s all here q is =
+    below_all ports (s ∷ settings) q (here, all) (ap (λ b. eqb q s.port || b) (sym (any_reversed (eqb q) (map (λ (t : Setting). t.port) settings))) ∙ is)
+
+pub apart_none : IsDistinct eqb []
+unfolding IsDistinct
+apart_none = tt
+
+pub set_apart : (settings : List Setting) (s : Setting) → IsDistinct eqb (ports_set settings) → list_any (λ other. other.port == s.port) settings ≡ false → IsDistinct eqb (s.port ∷ ports_set settings)
+unfolding IsDistinct
+set_apart settings s apart once = (none_is s.port (ports_set settings) (any_set s.port settings ∙ once), apart)
+
+-- settings of different ports are fewer than the ports, where one more is to come
+pub room_left : (ports : List Port) (settings : List Setting) (s : Setting) → AllByRecursion (IsSettable ports) settings → IsSettable ports s → IsDistinct eqb (ports_set settings) → list_any (λ other. other.port == s.port) settings ≡ false → length settings < length ports
+room_left ports settings s all here apart once =
+    let few = length-le_from_distinct_below (s.port ∷ ports_set settings) (length ports) (set_apart settings s apart once) (below_some ports settings s all here) in
+    let turned = length-reverse (map (λ (t : Setting). t.port) settings) in
+    let mapped = length-map settings (λ (t : Setting). t.port) in
+    omega arith
+
+pub apart_more : (settings : List Setting) (s : Setting) → IsDistinct eqb (ports_set settings) → list_any (λ other. other.port == s.port) settings ≡ false → IsDistinct eqb (ports_set (settings ++ s ∷ []))
+apart_more settings s apart once = subst (IsDistinct eqb) (sym (ports_more settings s)) (set_apart settings s apart once)

@@ -132,7 +132,7 @@ or_turned true false c e = e
 or_turned false true c e = refl
 or_turned false false c e = e
 
-any_reversed : (p : ℕ → Bool) (xs : List ℕ) → list_any p (reverse xs) ≡ list_any p xs
+pub any_reversed : (p : ℕ → Bool) (xs : List ℕ) → list_any p (reverse xs) ≡ list_any p xs
 any_reversed p [] = refl
 any_reversed p (x ∷ xs) =
     ap (list_any p) (reverse-append (x ∷ []) xs) ∙ list_any-append p (reverse xs) (x ∷ []) ∙ or_turned (list_any p (reverse xs)) (p x) (list_any p xs) (any_reversed p xs)
@@ -141,7 +141,7 @@ any_mapped : (i : ℕ) (set : List Setting) → list_any (λ v. v == i) (map (λ
 any_mapped i [] = refl
 any_mapped i (s ∷ set) = ap (λ b. (s.port == i) || b) (any_mapped i set)
 
-any_set : (i : ℕ) (set : List Setting) → list_any (λ v. v == i) (ports_set set) ≡ list_any (λ s. s.port == i) set
+pub any_set : (i : ℕ) (set : List Setting) → list_any (λ v. v == i) (ports_set set) ≡ list_any (λ s. s.port == i) set
 any_set i set = any_reversed (λ v. v == i) (map (λ (s : Setting). s.port) set) ∙ any_mapped i set
 
 
