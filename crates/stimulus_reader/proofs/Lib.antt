@@ -3,3 +3,4 @@ pub mod StimulusParts
 pub mod StimulusSettings
 pub mod StimulusLines
 pub mod StimulusBytes
+pub mod StimulusValues

@@ -321,6 +321,24 @@ fn set_values(settings: &[Setting], values: &mut Vec<Bits>)
     }
 }
 
+fn is_value(class: Class) -> bool
+    ensures { result ≡ is_value class }
+{
+    match class {
+        Class::Value => true,
+        Class::Clock | Class::Idle | Class::Output => false,
+    }
+}
+
+fn is_clock(class: Class) -> bool
+    ensures { result ≡ is_clock class }
+{
+    match class {
+        Class::Clock => true,
+        Class::Value | Class::Idle | Class::Output => false,
+    }
+}
+
 // Puts the values of the data inputs together, in port order.
 fn gather_inputs(ports: &[Port], values: &[Bits], inputs: &mut Vec<Bits>)
     requires values { map (λ v. v.width) values.now ≡ map (λ p. p.width) ports.now }
@@ -331,7 +349,7 @@ fn gather_inputs(ports: &[Port], values: &[Bits], inputs: &mut Vec<Bits>)
 {
     inputs.clear();
     for i in 0..ports.len() {
-        if ports[i].class == Class::Value {
+        if is_value(ports[i].class) {
             inputs.push_reserved(values[i]);
         }
     }
@@ -347,7 +365,7 @@ fn gather_levels(ports: &[Port], values: &[Bits], levels: &mut Vec<bool>)
 {
     levels.clear();
     for i in 0..ports.len() {
-        if ports[i].class == Class::Clock {
+        if is_clock(ports[i].class) {
             levels.push_reserved(values[i].word == 1);
         }
     }
