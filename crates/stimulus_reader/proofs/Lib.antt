@@ -4,3 +4,4 @@ pub mod StimulusSettings
 pub mod StimulusLines
 pub mod StimulusBytes
 pub mod StimulusValues
+pub mod StimulusJudging

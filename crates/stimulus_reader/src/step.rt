@@ -213,6 +213,7 @@ impl StepReader {
         requires some { 0 < span (line_in self.old ended) }
         requires within { self.old.at + span (line_in self.old ended) ≤ file_limit }
         ensures judges { Judges self.old self.new ended result }
+        ensures in_file { self.new.at ≤ file_limit }
     {
         let number = self.number;
         self.number += 1;
