@@ -5,3 +5,4 @@ pub mod StimulusLines
 pub mod StimulusBytes
 pub mod StimulusValues
 pub mod StimulusJudging
+pub mod StimulusGiven

@@ -16,19 +16,18 @@ use Rattle.stimulus_reader.specs.Reading.{Reading, script_left, passes_limit}
 use Rattle.stimulus_reader.specs.Fields.{reading_of, kept_of, bad_of}
 use Rattle.stimulus_reader.specs.LineReading.{StandsIn}
 use Rattle.stimulus_reader.specs.Judging.{line_in, meaning_in, IsBehind}
-use Rattle.stimulus_reader.specs.declared.step.Refused.{Refused}
 use Rattle.stimulus_reader.specs.declared.step.StepReader.TheInside.{Inside}
 
 -- ---- the line that is kept
 
 -- a reader that has refused no line keeps what is in its buffer
-none_bad : (bad : Option Refused) (line : List ℕ) → bad_of bad line ≡ None → kept_of bad line ≡ line
-none_bad None line e = refl
-none_bad (Some refused) line e = absurd (cc)
+none_bad : (bad : Option Reason) (last : ℕ) (line : List ℕ) → bad_of bad last line ≡ None → kept_of bad line ≡ line
+none_bad None last line e = refl
+none_bad (Some reason) last line e = absurd (cc)
 
 pub kept_is : (a : Inside) (before : Reading) → reading_of a ≡ before → before.bad ≡ None → before.kept ≡ a.line.items
 kept_is a before view good =
-    sym (ap (λ (r : Reading). r.kept) view) ∙ none_bad a.bad a.line.items (ap (λ (r : Reading). r.bad) view ∙ good)
+    sym (ap (λ (r : Reading). r.kept) view) ∙ none_bad a.bad a.last a.line.items (ap (λ (r : Reading). r.bad) view ∙ good)
 
 -- what the line in the buffer asks for
 pub meaning_is : (a : Inside) (before : Reading) (over : Bool) → reading_of a ≡ before → before.bad ≡ None → meaning_of_words a.ports.items (words_of (content_of (record { text = a.line.items; ended = over }))) ≡ meaning_in before over

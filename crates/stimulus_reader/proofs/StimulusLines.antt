@@ -11,7 +11,7 @@ use Rattle.stimulus_reader.specs.declared.step.StepKind.{StepKind}
 use Rattle.stimulus_reader.specs.declared.setting.Setting.{Setting}
 use Rattle.stimulus_reader.specs.declared.setting.BadWord.{BadWord}
 use Rattle.stimulus_reader.specs.Stimulus.{Fault, without_cr, words_of, setting_of, with_setting, after_setting, settings_of, meaning_of_settings, step_of, Stepped, Refused}
-use Rattle.stimulus_reader.specs.LineReading.{setting_seen, settings_seen, ports_set, fault_seen, IsSettable, HasFront}
+use Rattle.stimulus_reader.specs.LineReading.{setting_seen, settings_seen, ports_set, fault_seen, IsFitting, HasFront}
 
 -- ---- the CR
 
@@ -82,9 +82,9 @@ places_more (t ∷ settings) s = ap (λ (ts : List ℕ). t.port ∷ ts) (places_
 ports_more : (settings : List Setting) (s : Setting) → ports_set (settings ++ s ∷ []) ≡ s.port ∷ ports_set settings
 ports_more settings s = ap reverse (places_more settings s) ∙ reverse-append (map (λ (t : Setting). t.port) settings) (s.port ∷ [])
 
-pub all_settable : {X : Type 0} (P : X → Type 0) (xs : List X) (x : X) → AllByRecursion P xs → P x → AllByRecursion P (xs ++ x ∷ [])
-all_settable P [] x all here = (here, tt)
-all_settable P (y ∷ xs) x all here = (all.0, all_settable P xs x all.1 here)
+pub all_more_fit : {X : Type 0} (P : X → Type 0) (xs : List X) (x : X) → AllByRecursion P xs → P x → AllByRecursion P (xs ++ x ∷ [])
+all_more_fit P [] x all here = (here, tt)
+all_more_fit P (y ∷ xs) x all here = (all.0, all_more_fit P xs x all.1 here)
 
 -- ---- the loop over the words
 
@@ -133,17 +133,17 @@ either : (a b : Bool) → (a || b) ≡ true → (a ≡ true) ⊎ (b ≡ true)
 either true b e = inl refl
 either false b e = inr e
 
-below_all : (ports : List Port) (settings : List Setting) (q : ℕ) → AllByRecursion (IsSettable ports) settings → list_any (eqb q) (map (λ (s : Setting). s.port) settings) ≡ true → q < length ports
-below_all ports [] q all is = absurd (cc)
-below_all ports (s ∷ settings) q all is =
+below_all : (ports : List Port) (of : StepKind) (settings : List Setting) (q : ℕ) → AllByRecursion (IsFitting ports of) settings → list_any (eqb q) (map (λ (s : Setting). s.port) settings) ≡ true → q < length ports
+below_all ports of [] q all is = absurd (cc)
+below_all ports of (s ∷ settings) q all is =
     elim (either (eqb q s.port) (list_any (eqb q) (map (λ (s : Setting). s.port) settings)) is) [
       | inl here ↦ let same : q ≡ s.port = grind (arith, nat_tests) in let there = all.0.there in omega arith
-      | inr later ↦ below_all ports settings q all.1 later
+      | inr later ↦ below_all ports of settings q all.1 later
     ]
 
-below_some : (ports : List Port) (settings : List Setting) (s : Setting) → AllByRecursion (IsSettable ports) settings → IsSettable ports s → (q : ℕ) → list_any (eqb q) (s.port ∷ ports_set settings) ≡ true → q < length ports
-below_some ports settings s all here q is =
-    below_all ports (s ∷ settings) q (here, all) (ap (λ b. eqb q s.port || b) (sym (any_reversed (eqb q) (map (λ (t : Setting). t.port) settings))) ∙ is)
+below_some : (ports : List Port) (of : StepKind) (settings : List Setting) (s : Setting) → AllByRecursion (IsFitting ports of) settings → IsFitting ports of s → (q : ℕ) → list_any (eqb q) (s.port ∷ ports_set settings) ≡ true → q < length ports
+below_some ports of settings s all here q is =
+    below_all ports of (s ∷ settings) q (here, all) (ap (λ b. eqb q s.port || b) (sym (any_reversed (eqb q) (map (λ (t : Setting). t.port) settings))) ∙ is)
 
 pub apart_none : IsDistinct eqb []
 unfolding IsDistinct
@@ -154,9 +154,9 @@ unfolding IsDistinct
 set_apart settings s apart once = (none_is s.port (ports_set settings) (any_set s.port settings ∙ once), apart)
 
 -- settings of different ports are fewer than the ports, where one more is to come
-pub room_left : (ports : List Port) (settings : List Setting) (s : Setting) → AllByRecursion (IsSettable ports) settings → IsSettable ports s → IsDistinct eqb (ports_set settings) → list_any (λ other. other.port == s.port) settings ≡ false → length settings < length ports
-room_left ports settings s all here apart once =
-    let few = length-le_from_distinct_below (s.port ∷ ports_set settings) (length ports) (set_apart settings s apart once) (below_some ports settings s all here) in
+pub room_left : (ports : List Port) (of : StepKind) (settings : List Setting) (s : Setting) → AllByRecursion (IsFitting ports of) settings → IsFitting ports of s → IsDistinct eqb (ports_set settings) → list_any (λ other. other.port == s.port) settings ≡ false → length settings < length ports
+room_left ports of settings s all here apart once =
+    let few = length-le_from_distinct_below (s.port ∷ ports_set settings) (length ports) (set_apart settings s apart once) (below_some ports of settings s all here) in
     let turned = length-reverse (map (λ (t : Setting). t.port) settings) in
     let mapped = length-map settings (λ (t : Setting). t.port) in
     omega arith

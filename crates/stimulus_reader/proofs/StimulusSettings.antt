@@ -19,7 +19,7 @@ use Rattle.stimulus_reader.specs.declared.setting.Setting.{Setting}
 use Rattle.stimulus_reader.specs.declared.setting.BadWord.{BadWord}
 use Rattle.sv_base.specs.Spelling.{is_name}
 use Rattle.stimulus_reader.specs.Stimulus.{Fault, digit_of, more_digits, number_from, word_in, parts_of, before_first_part, named_part, is_input, input_from, setting_of, setting_of_parts, set_input, class_fault, unless_fault, unless_set, valued, value_in}
-use Rattle.stimulus_reader.specs.LineReading.{IsInputOf, IsSettable, StandsIn, ports_set}
+use Rattle.stimulus_reader.specs.LineReading.{IsInputOf, IsFitting, StandsIn, ports_set}
 
 -- ---- numbers
 
@@ -97,17 +97,21 @@ form_kept name text holds is = rw is refl
 -- the place that is found, counted from n, is that of an input
 abbrev FindsFrom : ℕ → List Port → List ℕ → Option ℕ → Type 0
 FindsFrom n ports name None = input_from n ports name ≡ None
-FindsFrom n ports name (Some i) = (k : ℕ) × (p : Port) × (i ≡ n + k) × (slice_get ports k ≡ Some p) × (input_from n ports name ≡ Some (i, p))
+FindsFrom n ports name (Some i) = (k : ℕ) × (p : Port) × (i ≡ n + k) × (slice_get ports k ≡ Some p) × (is_input p.class ≡ true) × (input_from n ports name ≡ Some (i, p))
+
+both_left : (a b : Bool) → (a && b) ≡ true → b ≡ true
+both_left true b e = e
+both_left false b e = cc
 
 finds_behind : (n : ℕ) (p : Port) (ports : List Port) (name : List ℕ) (first : Option ℕ) → (bytes_eq p.name name && is_input p.class) ≡ false → FindsFrom (n + 1) ports name first → FindsFrom n (p ∷ ports) name first
 finds_behind n p ports name None not_here finds = rw not_here finds
-finds_behind n p ports name (Some i) not_here finds = (suc finds.0, finds.1, omega arith, finds.3, rw not_here finds.4)
+finds_behind n p ports name (Some i) not_here finds = (suc finds.0, finds.1, omega arith, finds.3, finds.4, rw not_here finds.5)
 
 abbrev first_input : ℕ → List Port → List ℕ → Option ℕ
 first_input n ports name = position_from (λ v. bytes_eq v.name name && is_input v.class) n ports
 
 finds_at : (n : ℕ) (v : Port) (ports : List Port) (name : List ℕ) (here : Bool) → (bytes_eq v.name name && is_input v.class) ≡ here → FindsFrom (n + 1) ports name (first_input (n + 1) ports name) → FindsFrom n (v ∷ ports) name (cond here (Some n) (first_input (n + 1) ports name))
-finds_at n v ports name true is finds = (0, v, omega arith, refl, rw is refl)
+finds_at n v ports name true is finds = (0, v, omega arith, refl, both_left (bytes_eq v.name name) (is_input v.class) is, rw is refl)
 finds_at n v ports name false is finds = finds_behind n v ports name (first_input (n + 1) ports name) is finds
 
 finds_from : (n : ℕ) (ports : List Port) (name : List ℕ) → FindsFrom n ports name (first_input n ports name)
@@ -122,7 +126,7 @@ input_of ports name None is = finds_first ports name None is
 input_of ports name (Some i) is =
     let f = finds_first ports name (Some i) is in
     let same : f.0 ≡ i = let e = f.2 in omega arith in
-    record { port = f.1; at = subst (λ k. slice_get ports k ≡ Some f.1) same f.3; found = f.4 }
+    record { port = f.1; at = subst (λ k. slice_get ports k ≡ Some f.1) same f.3; input = f.4; found = f.5 }
 
 -- ---- repetitions
 
@@ -223,7 +227,19 @@ setting_gives ports of set word name text i port r parts found port_is gives =
     gives ∙ ap (λ (p : Port). set_input of set name text (Some (i, p))) port_is ∙ sym (ap (set_input of set name text) found.found)
     ∙ ap (setting_of_parts ports of set word) parts
 
-pub setting_fits : (ports : List Port) (name : List ℕ) (i : ℕ) (port : Port) (r : Result Setting BadWord) → (found : IsInputOf ports name i) → i < length ports → port ≡ found.port → IfOk r (λ s. s.port ≡ i) → IfOk r (λ s. s.value.width ≡ port.width) → IfOk r (IsSettable ports)
-setting_fits ports name i port (Ok s) found there port_is place width =
-    record { there = omega arith; port = found.port; at = rw place found.at; width = width ∙ ap (λ (p : Port). p.width) port_is }
-setting_fits ports name i port (Err bad) found there port_is place width = tt
+pub setting_fits : (ports : List Port) (of : StepKind) (name : List ℕ) (i : ℕ) (port : Port) (r : Result Setting BadWord) → (found : IsInputOf ports name i) → i < length ports → port ≡ found.port → IfOk r (λ s. s.port ≡ i) → IfOk r (λ s. s.value.width ≡ port.width) → IfOk r (λ s. class_fault of port.class port.width ≡ None) → IfOk r (IsFitting ports of)
+setting_fits ports of name i port (Ok s) found there port_is place width allowed =
+    let same : s.value.width ≡ found.port.width = width ∙ ap (λ (p : Port). p.width) port_is in
+    let fits : s.value.word < 2 ^ s.value.width = s.value.fits in
+    record {
+      there = omega arith;
+      settable = record {
+        port = found.port;
+        at = rw place found.at;
+        input = found.input;
+        class_fits = rw port_is at allowed;
+        word_fits = subst (λ (w : ℕ). s.value.word < 2 ^ w) same fits;
+      };
+      width = same;
+    }
+setting_fits ports of name i port (Err bad) found there port_is place width allowed = tt

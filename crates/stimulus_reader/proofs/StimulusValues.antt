@@ -10,8 +10,9 @@ use Rattle.sv_base.specs.declared.face.Class.{Class}
 use Rattle.sv_base.specs.declared.face.Class.TheVariants as class
 use Rattle.sv_base.specs.declared.face.Port.{Port}
 use Rattle.sv_base.specs.Steps.{set_all}
-use Rattle.stimulus_reader.specs.Reading.{is_clock, words_of_class, level_word}
-use Rattle.stimulus_reader.specs.LineReading.{Fits, IsSettable, settings_seen}
+use Rattle.stimulus_reader.specs.Reading.{IsSettable, is_clock, words_of_class, level_word}
+use Rattle.stimulus_reader.specs.declared.step.StepKind.{StepKind}
+use Rattle.stimulus_reader.specs.LineReading.{Fits, IsFitting, settings_seen}
 use Rattle.stimulus_reader.specs.declared.setting.Setting.{Setting}
 
 -- ---- one port more
@@ -91,18 +92,22 @@ set_more settings values i s whole inside is so_far =
     let set : map (λ (v : Bits). v.word) (slice_set values s.port s.value) ≡ slice_set words s.port s.value.word = map-set (λ (v : Bits). v.word) values s.port s.value in
     rw (add-one, set) (sym next ∙ so_far)
 
-setting_fits : (ports : List Port) (widths : List ℕ) (s : Setting) → widths ≡ map (λ (p : Port). p.width) ports → IsSettable ports s → Fits widths s
-setting_fits ports widths s is settable =
+setting_fits : (ports : List Port) (of : StepKind) (widths : List ℕ) (s : Setting) → widths ≡ map (λ (p : Port). p.width) ports → IsFitting ports of s → Fits widths s
+setting_fits ports of widths s is fitting =
     let w : ℕ = s.value.width in
     let mapped : List ℕ = map (λ (p : Port). p.width) ports in
-    let there : s.port < length ports = settable.there in
+    let there : s.port < length ports = fitting.there in
     let inside : s.port < length mapped = omega (arith, length-map ports (λ (p : Port). p.width)) in
-    let read : get_or mapped s.port w ≡ w = get_or-map (λ (p : Port). p.width) ports s.port settable.port w there ∙ ap (λ (p : Port). p.width) (get_or_from_slice_get ports s.port settable.port settable.port settable.at) ∙ sym settable.width in
+    let read : get_or mapped s.port w ≡ w = get_or-map (λ (p : Port). p.width) ports s.port fitting.settable.port w there ∙ ap (λ (p : Port). p.width) (get_or_from_slice_get ports s.port fitting.settable.port fitting.settable.port fitting.settable.at) ∙ sym fitting.width in
     ap (λ (ws : List ℕ). slice_get ws s.port) is ∙ slice_get-get_or mapped s.port w inside ∙ ap Some read
 
-pub all_fit : (ports : List Port) (widths : List ℕ) (settings : List Setting) → widths ≡ map (λ (p : Port). p.width) ports → AllByRecursion (IsSettable ports) settings → AllByRecursion (Fits widths) settings
-all_fit ports widths [] is all = tt
-all_fit ports widths (s ∷ settings) is all = (setting_fits ports widths s is all.0, all_fit ports widths settings is all.1)
+pub all_fit : (ports : List Port) (of : StepKind) (widths : List ℕ) (settings : List Setting) → widths ≡ map (λ (p : Port). p.width) ports → AllByRecursion (IsFitting ports of) settings → AllByRecursion (Fits widths) settings
+all_fit ports of widths [] is all = tt
+all_fit ports of widths (s ∷ settings) is all = (setting_fits ports of widths s is all.0, all_fit ports of widths settings is all.1)
+
+pub all_settable : (ports : List Port) (of : StepKind) (settings : List Setting) → AllByRecursion (IsFitting ports of) settings → AllByRecursion (IsSettable ports of) (settings_seen settings)
+all_settable ports of [] all = tt
+all_settable ports of (s ∷ settings) all = (all.0.settable, all_settable ports of settings all.1)
 
 -- each value has the width of its port, so there are as many
 pub same_length : (values : List Bits) (ports : List Port) → map (λ (v : Bits). v.width) values ≡ map (λ (p : Port). p.width) ports → length values ≡ length ports

@@ -7,22 +7,22 @@ use Rattle.sv_base.specs.declared.face.Class.TheVariants as class
 use Rattle.stimulus_reader.specs.Stimulus.{BadLine, line_limit, file_limit}
 use Rattle.stimulus_reader.specs.Reading.{Reading, is_value, is_clock, words_of_class, level_word}
 use Rattle.stimulus_reader.specs.LineSource.{IsOpenLine}
-use Rattle.stimulus_reader.specs.declared.step.Refused.{Refused}
+use Rattle.stimulus_reader.specs.declared.reason.Reason.{Reason}
 use Rattle.stimulus_reader.specs.declared.step.StepReader.TheInside.{Inside}
 
 -- the buffer has the line that is read, before a line was refused
-abbrev pub kept_of : Option Refused → List ℕ → List ℕ
+abbrev pub kept_of : Option Reason → List ℕ → List ℕ
 kept_of None line = line
-kept_of (Some refused) line = []
+kept_of (Some reason) line = []
 
--- and after that it has the bad word
-abbrev pub bad_of : Option Refused → List ℕ → Option BadLine
-bad_of None line = None
-bad_of (Some refused) line = Some (record { line = refused.line; reason = refused.reason; word = line })
+-- and after that it has the bad word, and the line is the last
+abbrev pub bad_of : Option Reason → ℕ → List ℕ → Option BadLine
+bad_of None last word = None
+bad_of (Some reason) last word = Some (record { line = last; reason = reason; word = word })
 
 -- the reading that the fields have
 abbrev pub reading_of : Inside → Reading
-reading_of a = record { ports = a.ports.items; number = a.number; at = a.at; kept = kept_of a.bad a.line.items; last = a.last; values = map (λ v. v.word) a.values.items; bad = bad_of a.bad a.line.items }
+reading_of a = record { ports = a.ports.items; number = a.number; at = a.at; kept = kept_of a.bad a.line.items; last = a.last; values = map (λ v. v.word) a.values.items; bad = bad_of a.bad a.last a.line.items }
 
 -- the lists that are lent are those of the values, and there is room for what a line may bring
 pub record IsSound (a : Inside) : Type 0 where

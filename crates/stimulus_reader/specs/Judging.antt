@@ -1,8 +1,9 @@
 -- What one line makes of a reading.
 use Rattle.std.specs.Prelude.{◌≡◌, ℕ, ◌+◌, Bool, List, [], Option, None, Some, Result, Ok, Err}
+use Rattle.std.specs.List.{AllByRecursion}
 use Rattle.sv_base.specs.Steps.{Setting, set_all}
 use Rattle.stimulus_reader.specs.Stimulus.{Line, Fault, Meaning, Skipped, Stepped, Refused, step_of, lines_of, words_of, content_of, span, meaning_of_words}
-use Rattle.stimulus_reader.specs.Reading.{Reading, IsStep, IsEnd, IsBad, IsInterrupted, script_left}
+use Rattle.stimulus_reader.specs.Reading.{Reading, IsSettable, IsStep, IsEnd, IsBad, IsInterrupted, script_left}
 use Rattle.stimulus_reader.specs.declared.reason.Reason.{Reason}
 use Rattle.stimulus_reader.specs.declared.step.StepKind.{StepKind}
 use Rattle.stimulus_reader.specs.declared.step.StepFault.{StepFault}
@@ -37,6 +38,7 @@ pub record Skips (before after : Reading) (over : Bool) : Type 0 where
 pub record Steps (before after : Reading) (over : Bool) (of : StepKind) : Type 0 where
   pub behind : IsBehind before after over
   pub settings : List Setting
+  pub settable : AllByRecursion (IsSettable before.ports of) settings
   pub meaning : meaning_in before over ≡ Stepped (step_of of settings)
   pub values : after.values ≡ set_all settings before.values
   pub last : after.last ≡ before.number

@@ -3,5 +3,4 @@ pub mod Reading
 pub mod LineSource
 pub mod LineReading
 pub mod Judging
-pub mod Told
 pub mod Fields

@@ -1,9 +1,11 @@
 -- What is read of a line, in the terms of the definition.
-use Rattle.std.specs.Prelude.{◌≡◌, ℕ, ◌<◌, List, ◌++◌, length, map, reverse, slice_get, ⊤, Some, Result, Ok, Err}
+use Rattle.std.specs.Prelude.{◌≡◌, ℕ, ◌<◌, List, ◌++◌, length, map, reverse, slice_get, ⊤, true, Some, Result, Ok, Err}
 use Rattle.sv_base.specs.declared.face.Port.{Port}
 use Rattle.sv_base.specs.Steps.{Setting as Assigned}
 use Rattle.stimulus_reader.specs.Stimulus.{Fault, is_input, input_from, step_of, Meaning as Asked}
 use Rattle.stimulus_reader.specs.Stimulus as asked
+use Rattle.stimulus_reader.specs.Reading.{IsSettable}
+use Rattle.stimulus_reader.specs.declared.step.StepKind.{StepKind}
 use Rattle.stimulus_reader.specs.declared.setting.Setting.{Setting}
 use Rattle.stimulus_reader.specs.declared.setting.BadWord.{BadWord}
 use Rattle.stimulus_reader.specs.declared.line.Meaning.{Meaning}
@@ -13,14 +15,8 @@ use Rattle.stimulus_reader.specs.declared.line.Meaning.TheVariants.{Skipped, Ste
 pub record IsInputOf (ports : List Port) (name : List ℕ) (place : ℕ) : Type 0 where
   pub port : Port
   pub at : slice_get ports place ≡ Some port
+  pub input : is_input port.class ≡ true
   pub found : input_from 0 ports name ≡ Some (place, port)
-
--- a setting gives a port a value of its width
-pub record IsSettable (ports : List Port) (setting : Setting) : Type 0 where
-  pub there : setting.port < length ports
-  pub port : Port
-  pub at : slice_get ports setting.port ≡ Some port
-  pub width : setting.value.width ≡ port.width
 
 -- a setting fits values of these widths
 abbrev pub Fits : List ℕ → Setting → Type 0
@@ -30,6 +26,13 @@ Fits widths setting = slice_get widths setting.port ≡ Some setting.value.width
 abbrev pub setting_seen : Setting → Assigned
 setting_seen s = record { port = s.port; word = s.value.word }
 
+-- a line of this kind may set it, and its value has the port's width
+pub record IsFitting (ports : List Port) (of : StepKind) (setting : Setting) : Type 0 where
+  pub there : setting.port < length ports
+  pub settable : IsSettable ports of (setting_seen setting)
+  pub width : setting.value.width ≡ settable.port.width
+
+-- what settings say
 abbrev pub settings_seen : List Setting → List Assigned
 settings_seen settings = map setting_seen settings
 
@@ -37,9 +40,11 @@ settings_seen settings = map setting_seen settings
 abbrev pub ports_set : List Setting → List ℕ
 ports_set settings = reverse (map (λ s. s.port) settings)
 
+-- what a refusal says
 abbrev pub fault_seen : BadWord → Fault
 fault_seen bad = record { reason = bad.reason; word = bad.word.now }
 
+-- what a word sets, or what is wrong with it
 abbrev pub setting_result : Result Setting BadWord → Result Assigned Fault
 setting_result (Ok s) = Ok (setting_seen s)
 setting_result (Err bad) = Err (fault_seen bad)

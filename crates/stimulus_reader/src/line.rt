@@ -5,7 +5,7 @@ ghost use Rattle.std.specs.List.{AllByRecursion};
 ghost use Rattle.std.specs.Vec.{vec_capacity};
 ghost use Rattle.bit_ops.specs.Width.{IsWidth};
 ghost use Rattle.stimulus_reader.specs.Stimulus.{without_cr, words_of, content_of, settings_of, meaning_of_settings, meaning_of_words, is_comment, kind_of};
-ghost use Rattle.stimulus_reader.specs.LineReading.{HasFront, IsSettable, NamesPartOf, meaning_seen};
+ghost use Rattle.stimulus_reader.specs.LineReading.{HasFront, IsFitting, NamesPartOf, meaning_seen};
 
 use crate::reason::Reason;
 use crate::setting::{BadWord, Setting, read_setting};
@@ -57,7 +57,7 @@ fn read_settings<'a>(
     requires widths { AllByRecursion (λ p. IsWidth p.width) ports.now }
     requires room { length ports.now ≤ vec_capacity settings.old }
     ensures gives { meaning_seen settings.new.items result ≡ meaning_of_settings kind (settings_of ports.now kind [] (words_of text.now)) }
-    ensures settable { AllByRecursion (IsSettable ports.now) settings.new.items }
+    ensures fitting { AllByRecursion (IsFitting ports.now kind) settings.new.items }
     ensures part { NamesPartOf text.now result }
     ensures capacity { vec_capacity settings.new ≡ vec_capacity settings.old }
 {
@@ -106,7 +106,7 @@ fn read_words<'a>(ports: &[Port], text: &'a [u8], settings: &mut Vec<Setting>) -
     requires widths { AllByRecursion (λ p. IsWidth p.width) ports.now }
     requires room { length ports.now ≤ vec_capacity settings.old }
     ensures gives { meaning_seen settings.new.items result ≡ meaning_of_words ports.now (words_of text.now) }
-    ensures settable { (kind : StepKind) → result ≡ Meaning.Stepped kind → AllByRecursion (IsSettable ports.now) settings.new.items }
+    ensures fitting { (kind : StepKind) → result ≡ Meaning.Stepped kind → AllByRecursion (IsFitting ports.now kind) settings.new.items }
     ensures part { NamesPartOf text.now result }
     ensures capacity { vec_capacity settings.new ≡ vec_capacity settings.old }
 {
@@ -136,7 +136,7 @@ pub fn read_line<'a>(
     requires widths { AllByRecursion (λ p. IsWidth p.width) ports.now }
     requires room { length ports.now ≤ vec_capacity settings.old }
     ensures gives { meaning_seen settings.new.items result ≡ meaning_of_words ports.now (words_of (content_of (record { text = line.now; ended = ended }))) }
-    ensures settable { (kind : StepKind) → result ≡ Meaning.Stepped kind → AllByRecursion (IsSettable ports.now) settings.new.items }
+    ensures fitting { (kind : StepKind) → result ≡ Meaning.Stepped kind → AllByRecursion (IsFitting ports.now kind) settings.new.items }
     ensures part { NamesPartOf line.now result }
     ensures capacity { vec_capacity settings.new ≡ vec_capacity settings.old }
 {

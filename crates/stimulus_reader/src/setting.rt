@@ -7,7 +7,7 @@ ghost use Rattle.std.specs.Str.{bytes_eq};
 ghost use Rattle.bit_ops.specs.Width.{IsWidth};
 ghost use Rattle.sv_base.specs.Spelling.{is_name};
 ghost use Rattle.stimulus_reader.specs.Stimulus.{digit_of, number_from, word_in, level_in, value_in, parts_of, named_part, is_input, input_from, class_fault, set_input, setting_of};
-ghost use Rattle.stimulus_reader.specs.LineReading.{IsInputOf, IsSettable, StandsIn, ports_set, setting_result};
+ghost use Rattle.stimulus_reader.specs.LineReading.{IsInputOf, IsFitting, StandsIn, ports_set, setting_result};
 
 use crate::reason::Reason;
 use crate::step::StepKind;
@@ -193,6 +193,7 @@ fn set_port<'a>(
     ensures gives { setting_result result ≡ set_input kind (ports_set set.now) name.now text.now (Some (at, port.now)) }
     ensures place { IfOk result (λ s. s.port ≡ at) }
     ensures width { IfOk result (λ s. s.value.width ≡ port.now.width) }
+    ensures allowed { IfOk result (λ s. class_fault kind port.now.class port.now.width ≡ None) }
     ensures once { IfOk result (λ s. list_any (λ other. other.port == at) set.now ≡ false) }
     ensures part { IfErr result (λ bad. StandsIn (name.now ++ 61 ∷ text.now) bad.word.now bad.behind) }
 {
@@ -230,7 +231,7 @@ pub fn read_setting<'a>(
 ) -> Result<Setting, BadWord<'a>>
     requires { AllByRecursion (λ p. IsWidth p.width) ports.now }
     ensures gives { setting_result result ≡ setting_of ports.now kind (ports_set set.now) word.now }
-    ensures settable { IfOk result (IsSettable ports.now) }
+    ensures fitting { IfOk result (IsFitting ports.now kind) }
     ensures once { IfOk result (λ s. list_any (λ other. other.port == s.port) set.now ≡ false) }
     ensures part { IfErr result (λ bad. StandsIn word.now bad.word.now bad.behind) }
 {

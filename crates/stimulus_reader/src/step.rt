@@ -44,13 +44,6 @@ enum Outcome {
     Step(StepKind),
 }
 
-// A line that is refused, and why.
-#[derive(Clone, Copy, Debug, PartialEq, Eq)]
-struct Refused {
-    line: u64,
-    reason: Reason,
-}
-
 /// A reader of the steps of one stimulus file. It reads a byte at a time, and none behind the line that it needs.
 #[derive(Debug, Drop)]
 pub struct StepReader {
@@ -69,7 +62,8 @@ pub struct StepReader {
     values: Vec<Bits>,
     inputs: Vec<Bits>,
     levels: Vec<bool>,
-    bad: Option<Refused>,
+    // why that line is refused, after which nothing is read
+    bad: Option<Reason>,
 }
 
 impl Model for StepReader {
@@ -90,11 +84,9 @@ impl StepReader {
     ghost use Rattle.std.specs.Str.{bytes_eq};
     ghost use Rattle.bit_ops.specs.Width.{IsWidth};
     ghost use Rattle.sv_base.specs.declared.face.Class.TheVariants.{Clock};
-    ghost use Rattle.io_edge.specs.Fault.{Rose};
     ghost use Rattle.stimulus_reader.specs.Stimulus.{span, file_limit};
-    ghost use Rattle.stimulus_reader.specs.Reading.{at_front, IsStep, IsEnd, IsBad, IsInterrupted, word_of, is_value, is_clock, words_of_class, level_word};
+    ghost use Rattle.stimulus_reader.specs.Reading.{at_front, IsStep, IsEnd, Tells, IsTold, IsToldAgain, IsStepCause, IsInputAt, word_of, is_value, is_clock, words_of_class, level_word};
     ghost use Rattle.stimulus_reader.specs.LineSource.{LeftSo};
-    ghost use Rattle.stimulus_reader.specs.Told.{IfBad, IfReadFault, BadAgain, IsTold, IsInputAt};
     ghost use Rattle.stimulus_reader.specs.Judging.{line_in, Judges, GivesLine};
 
     /// A reader before the first byte of a stimulus for a design with this face. It reserves its memory here.
@@ -130,19 +122,19 @@ impl StepReader {
     pub fn next_step<S: Source>(&mut self, source: &mut S) -> Result<Option<StepKind>, StepFault>
         ensures step { IfOk result (λ next. IfSome next (λ of. LeftSo (S.left source.old) (S.left source.new) (IsStep self.old self.new of))) }
         ensures end { IfOk result (λ next. IfNone next (LeftSo (S.left source.old) (S.left source.new) (λ bytes rest. IsEnd self.old bytes))) }
-        ensures bad { IfErr result (IfBad (λ line reason. self.old.bad ≡ None → LeftSo (S.left source.old) (S.left source.new) (λ bytes rest. IsBad self.old self.new line reason bytes))) }
-        ensures interrupted { IfErr result (IfReadFault (LeftSo (S.left source.old) (S.left source.new) (IsInterrupted self.old self.new))) }
+        ensures fault { IfErr result (λ fault. LeftSo (S.left source.old) (S.left source.new) (Tells self.old self.new fault)) }
         ensures ports { self.new.ports ≡ self.old.ports }
-        ensures bad_again { BadAgain self.old.bad self.old self.new result }
-        ensures told { IsTold self.new.bad result }
-        ensures cause { IfErr result (IfReadFault (Rose (S.faults source.old) (S.faults source.new))) }
+        ensures told { IfErr result (IsTold self.new) }
+        ensures again { IsToldAgain self.old self.new result }
+        ensures good { IfOk result (λ next. self.new.bad ≡ None) }
+        ensures cause { IfErr result (λ fault. IsStepCause fault (S.faults source.old) (S.faults source.new)) }
         ensures ground { S.same_ground source.old source.new }
         ensures later { S.faults source.old ≤ S.faults source.new }
     {
-        if let Some(refused) = self.bad {
+        if let Some(reason) = self.bad {
             return Err(StepFault::Bad {
-                line: refused.line,
-                reason: refused.reason,
+                line: self.last,
+                reason,
             });
         }
         'lines: loop {
@@ -164,7 +156,7 @@ impl StepReader {
 
     /// The value of the input at this place among the ports, counted from 0: zero, before a step sets it.
     pub fn value(&self, port: usize) -> Bits
-        requires { IsInputAt self.now.ports port }
+        requires input { IsInputAt self.now.ports port }
         ensures word { result.word ≡ slice_index self.now.values port }
         ensures width { result.width ≡ slice_index (map (λ p. p.width) self.now.ports) port }
     {
@@ -237,10 +229,7 @@ impl StepReader {
                 let behind = bad.behind;
                 keep_word(&mut self.line, len, behind);
                 self.last = number;
-                self.bad = Some(Refused {
-                    line: number,
-                    reason,
-                });
+                self.bad = Some(reason);
                 Err(StepFault::Bad {
                     line: number,
                     reason,
@@ -254,10 +243,11 @@ impl StepReader {
         requires { self.old.bad ≡ None }
         ensures gives { LeftSo (S.left source.old) (S.left source.new) (GivesLine self.old self.new result) }
         ensures ports { self.new.ports ≡ self.old.ports }
-        ensures told { IsTold self.new.bad result }
+        ensures told { IfErr result (IsTold self.new) }
+        ensures good { IfOk result (λ outcome. self.new.bad ≡ None) }
         ensures on { IfOk result (λ outcome. outcome ≡ Outcome.Skipped → self.old.at < self.new.at) }
         ensures within { self.new.at ≤ file_limit }
-        ensures cause { IfErr result (IfReadFault (Rose (S.faults source.old) (S.faults source.new))) }
+        ensures cause { IfErr result (λ fault. IsStepCause fault (S.faults source.old) (S.faults source.new)) }
         ensures ground { S.same_ground source.old source.new }
         ensures later { S.faults source.old ≤ S.faults source.new }
     {
@@ -268,10 +258,7 @@ impl StepReader {
                 let number = self.number;
                 self.line.clear();
                 self.last = number;
-                self.bad = Some(Refused {
-                    line: number,
-                    reason,
-                });
+                self.bad = Some(reason);
                 Err(StepFault::Bad {
                     line: number,
                     reason,

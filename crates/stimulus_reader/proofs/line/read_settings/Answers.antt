@@ -1,13 +1,13 @@
 use Rattle.std.proofs.Common.{refl, ◌∙◌, ◌<◌, arith, length}
-use Rattle.stimulus_reader.specs.LineReading.{IsSettable}
+use Rattle.stimulus_reader.specs.LineReading.{IsFitting}
 use Rattle.stimulus_reader.proofs.StimulusParts.{passed_none, passed_word, stands_in_word}
-use Rattle.stimulus_reader.proofs.StimulusLines.{read_more, read_bad, read_whole, all_settable, apart_none, apart_more, room_left}
+use Rattle.stimulus_reader.proofs.StimulusLines.{read_more, read_bad, read_whole, all_more_fit, apart_none, apart_more, room_left}
 use Rattle.stimulus_reader.proofs.line.read_settings.Goals as goal
 
 pub loop-word-init : goal.loop-word-init
 loop-word-init c = record {
   so_far = rw c.clear.ensures.items refl;
-  settable = rw c.clear.ensures.items tt;
+  fitting = rw c.clear.ensures.items tt;
   apart = rw c.clear.ensures.items apart_none;
   passed = passed_none c.args.text.now;
   capacity = c.clear.ensures.capacity;
@@ -17,7 +17,7 @@ pub push_reserved-requires : goal.push_reserved-requires
 push_reserved-requires c =
     let settings = c.loop-word.settings in
     let before = c.loop-word.invariant in
-    let few : length settings.items < length c.args.ports.now = room_left c.args.ports.now settings.items c.in-Ok.setting before.settable c.in-Ok.ensures.settable before.apart (rw c.deref.ensures.value at c.in-Ok.ensures.once) in
+    let few : length settings.items < length c.args.ports.now = room_left c.args.ports.now c.args.kind settings.items c.in-Ok.setting before.fitting c.in-Ok.ensures.fitting before.apart (rw c.deref.ensures.value at c.in-Ok.ensures.once) in
     let room = c.requires.room in
     let same = before.capacity in
     let len = settings.ok.0 in
@@ -37,7 +37,7 @@ loop-word-preserved c =
     let before = c.loop-word.invariant in
     record {
       so_far = rw c.push_reserved.ensures.items (read_more c.args.ports.now c.args.kind settings _ c.in-Ok.setting c.in-Some.word.now c.in-Some.rest.now c.loop-word.left.now c.args.text.now c.in-Some.ensures.words c.deref.ensures.value c.in-Ok.ensures.gives before.so_far);
-      settable = rw c.push_reserved.ensures.items (all_settable (IsSettable c.args.ports.now) settings c.in-Ok.setting before.settable c.in-Ok.ensures.settable);
+      fitting = rw c.push_reserved.ensures.items (all_more_fit (IsFitting c.args.ports.now c.args.kind) settings c.in-Ok.setting before.fitting c.in-Ok.ensures.fitting);
       apart = rw c.push_reserved.ensures.items (apart_more settings c.in-Ok.setting before.apart (rw c.deref.ensures.value at c.in-Ok.ensures.once));
       passed = passed_word c.args.text.now c.loop-word.left.now c.in-Some.word.now c.in-Some.rest.now before.passed c.in-Some.ensures.part;
       capacity = c.push_reserved.ensures.capacity ∙ before.capacity;

@@ -18,11 +18,11 @@ returns-clause-gives c =
     setting_gives c.args.ports.now c.args.kind _ c.args.word.now c.in-Some.name.now c.in-Some.text.now c.in-Some-input.at c.index-ports-at.result _ c.in-Some.ensures found
     (c.index-ports-at.is ∙ port_at c.args.ports.now c.in-Some.name.now c.in-Some-input.at c.index-ports-at.result found) c.set_port.ensures.gives
 
-pub returns-clause-settable : goal.returns-clause-settable
-returns-clause-settable c =
+pub returns-clause-fitting : goal.returns-clause-fitting
+returns-clause-fitting c =
     let found = c.in-Some-input.ensures.found in
-    setting_fits c.args.ports.now c.in-Some.name.now c.in-Some-input.at c.index-ports-at.result c.set_port.result found c.in-Some-input.ensures.there
-    (c.index-ports-at.is ∙ port_at c.args.ports.now c.in-Some.name.now c.in-Some-input.at c.index-ports-at.result found) c.set_port.ensures.place c.set_port.ensures.width
+    setting_fits c.args.ports.now c.args.kind c.in-Some.name.now c.in-Some-input.at c.index-ports-at.result c.set_port.result found c.in-Some-input.ensures.there
+    (c.index-ports-at.is ∙ port_at c.args.ports.now c.in-Some.name.now c.in-Some-input.at c.index-ports-at.result found) c.set_port.ensures.place c.set_port.ensures.width c.set_port.ensures.allowed
 
 pub returns-clause-part : goal.returns-clause-part
 returns-clause-part c =
