@@ -1,5 +1,5 @@
 -- What the reader gives, line by line.
-use Rattle.std.proofs.Common.{◌≡◌, ℕ, zero, suc, ◌+◌, ◌-◌, ◌<◌, ◌≤◌, Bool, true, false, List, [], ◌∷◌, ◌++◌, refl, sym, ap, subst, ◌∙◌, arith, Option, None, Some, Result, Ok, Err, if◌then◌else◌, sub-one}
+use Rattle.std.proofs.Common.{◌≡◌, ℕ, zero, suc, ◌+◌, ◌-◌, ◌<◌, ◌≤◌, Bool, true, false, List, [], ◌∷◌, ◌++◌, refl, sym, ap, subst, ◌∙◌, arith, Option, None, Some, Result, Ok, Err, if◌then◌else◌}
 use Rattle.sv_base.specs.declared.face.Port.{Port}
 use Rattle.stimulus_reader.specs.declared.reason.Reason.{Reason}
 use Rattle.stimulus_reader.specs.declared.reason.Reason.TheVariants.{TooManySteps}
@@ -17,6 +17,9 @@ use Rattle.stimulus_reader.specs.Judging.{line_in, meaning_in, IsBehind, Skips, 
 use Rattle.stimulus_reader.proofs.StimulusJudging.{refused_no_limit}
 
 -- ---- one line
+
+sub_one : (n : ℕ) → suc n - 1 ≡ n
+sub_one n = omega arith
 
 -- the reader has read on, and otherwise stands where it stood
 pub record ReadOn (before mid : Reading) : Type 0 where
@@ -62,6 +65,7 @@ step_gives before mid after over of bytes rest on is steps = record {
   step = λ more.
     line_script before mid over bytes rest on is (suc more)
     ∙ ap (λ (m : Meaning). script_of_meaning (suc more) mid.number m (script_behind mid over rest (suc more)) (script_behind mid over rest (suc more - 1))) steps.meaning
+    ∙ ap (λ (n : ℕ). asked.with_step (step_of of steps.settings) (script_behind mid over rest n)) (sub_one more)
     ∙ ap (asked.with_step (step_of of steps.settings)) (sym (behind_script mid after over rest steps.behind more));
   none_left =
     line_script before mid over bytes rest on is zero

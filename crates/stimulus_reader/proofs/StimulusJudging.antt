@@ -1,5 +1,5 @@
 -- What a line makes of the script.
-use Rattle.std.proofs.Common.{◌≡◌, ℕ, zero, suc, ◌+◌, ◌-◌, ◌<◌, ◌≤◌, Bool, true, false, ◌==◌, List, [], ◌∷◌, ◌++◌, length, take, drop, refl, sym, ap, subst, ◌∙◌, arith, length-append, Option, None, Some, IfErr, Result, Ok, Err, if◌then◌else◌}
+use Rattle.std.proofs.Common.{◌≡◌, ℕ, zero, suc, ◌+◌, ◌-◌, ◌<◌, ◌≤◌, Bool, true, false, ◌==◌, List, [], ◌∷◌, ◌++◌, length, take, drop, Vec, Global, refl, sym, ap, subst, ◌∙◌, arith, length-append, Option, None, Some, IfErr, Result, Ok, Err, if◌then◌else◌}
 use Rattle.std.specs.List.{list_any}
 use Rattle.std.proofs.Math.Seq.{drop-append_seam, take-append_seam}
 use Rattle.sv_base.specs.declared.face.Class.{Class}
@@ -15,6 +15,9 @@ use Rattle.stimulus_reader.specs.Stimulus as asked
 use Rattle.stimulus_reader.specs.Reading.{Reading, script_left, passes_limit}
 use Rattle.stimulus_reader.specs.Fields.{reading_of, kept_of, bad_of}
 use Rattle.stimulus_reader.specs.LineReading.{StandsIn}
+use Rattle.stimulus_reader.specs.LineSource.{IsFound}
+use Rattle.stimulus_reader.specs.declared.found.Found.{Found}
+use Rattle.stimulus_reader.specs.declared.found.Found.TheVariants as found
 use Rattle.stimulus_reader.specs.Judging.{line_in, meaning_in, IsBehind}
 use Rattle.stimulus_reader.specs.declared.step.StepReader.TheInside.{Inside}
 
@@ -28,6 +31,41 @@ none_bad (Some reason) last line e = absurd (cc)
 pub kept_is : (a : Inside) (before : Reading) → reading_of a ≡ before → before.bad ≡ None → before.kept ≡ a.line.items
 kept_is a before view good =
     sym (ap (λ (r : Reading). r.kept) view) ∙ none_bad a.bad a.last a.line.items (ap (λ (r : Reading). r.bad) view ∙ good)
+
+-- whatever is in the buffer, no line was refused
+pub still_good : (bad : Option Reason) (last next : ℕ) (line word : List ℕ) → bad_of bad last line ≡ None → bad_of bad next word ≡ None
+still_good None last next line word e = refl
+still_good (Some reason) last next line word e = absurd (cc)
+
+kept_any : (bad : Option Reason) (last : ℕ) (line other : List ℕ) → bad_of bad last line ≡ None → kept_of bad other ≡ other
+kept_any None last line other e = refl
+kept_any (Some reason) last line other e = absurd (cc)
+
+kept_none : (bad : Option Reason) → kept_of bad [] ≡ []
+kept_none None = refl
+kept_none (Some reason) = refl
+
+-- what was found at the place of the reader is the line that it keeps then
+pub found_kept : (a : Inside) (before : Reading) (line : List ℕ) (what : Found) (over : Bool) (x y : List ℕ) → reading_of a ≡ before → before.bad ≡ None → what ≡ found.Line over → IsFound a.at line what (a.line.items ++ x) y → IsFound before.at (kept_of a.bad line) (found.Line over) (before.kept ++ x) y
+found_kept a before line what over x y view good is there =
+    let none : bad_of a.bad a.last a.line.items ≡ None = ap (λ (r : Reading). r.bad) view ∙ good in
+    let here : IsFound a.at line (found.Line over) (a.line.items ++ x) y = subst (λ (w : Found). IsFound a.at line w (a.line.items ++ x) y) is there in
+    subst (λ (xs : List ℕ). IsFound before.at xs (found.Line over) (before.kept ++ x) y) (sym (kept_any a.bad a.last a.line.items line none))
+    (subst (λ (xs : List ℕ). IsFound before.at line (found.Line over) (xs ++ x) y) (sym (kept_is a before view good))
+    (subst (λ (n : ℕ). IsFound n line (found.Line over) (a.line.items ++ x) y) (ap (λ (r : Reading). r.at) view) here))
+
+-- the reader stands behind the line that it kept
+pub behind_line : (a b : Inside) (before : Reading) (over : Bool) (bytes : ℕ) → reading_of a ≡ before → before.bad ≡ None → b.ports ≡ a.ports → b.number ≡ a.number + 1 → b.at ≡ a.at + bytes → bytes ≡ length a.line.items + (if over then 1 else 0) → b.line.items ≡ [] → b.bad ≡ a.bad → IsBehind before (reading_of b) over
+behind_line a b before over bytes view good ports number at bytes_are line bad =
+    let buffer = kept_is a before view good in
+    let none : bad_of a.bad a.last a.line.items ≡ None = ap (λ (r : Reading). r.bad) view ∙ good in
+    record {
+      ports = ap (λ (p : Vec Port Global). p.items) ports ∙ ap (λ (r : Reading). r.ports) view;
+      number = number ∙ ap (λ (r : Reading). r.number + 1) view;
+      at = at ∙ ap (λ n. a.at + n) (bytes_are ∙ ap (λ (xs : List ℕ). length xs + (if over then 1 else 0)) (sym buffer)) ∙ ap (λ (r : Reading). r.at + span (line_in before over)) view;
+      kept = ap (kept_of b.bad) line ∙ kept_none b.bad;
+      bad = rw bad (still_good a.bad a.last b.last a.line.items b.line.items none);
+    }
 
 -- what the line in the buffer asks for
 pub meaning_is : (a : Inside) (before : Reading) (over : Bool) → reading_of a ≡ before → before.bad ≡ None → meaning_of_words a.ports.items (words_of (content_of (record { text = a.line.items; ended = over }))) ≡ meaning_in before over
