@@ -22,11 +22,6 @@ left_as P Q None b as_well p = p
 left_as P Q (Some x) None as_well p = p
 left_as P Q (Some x) (Some y) as_well p = as_well x y p
 
--- nothing was read
-pub left_itself : (P : List ℕ → List ℕ → Type 0) (a : Option (List ℕ)) → ((x : List ℕ) → P x x) → LeftSo a a P
-left_itself P None same = refl
-left_itself P (Some x) same = same x
-
 -- ---- lines
 
 lf_line : (xs rest : List ℕ) → HasNoLf xs → lines_of (xs ++ 10 ∷ rest) ≡ record { text = xs; ended = true } ∷ lines_of rest

@@ -99,39 +99,3 @@ line_gives before mid after over (Ok outcome.End) bytes rest on judges is = absu
 line_gives before mid after over (Ok (outcome.Step of)) bytes rest on judges is = step_gives before mid after over of bytes rest on is judges
 line_gives before mid after over (Err (Bad number reason)) bytes rest on judges is = bad_gives before mid after over number reason bytes rest on is judges
 line_gives before mid after over (Err ReadFault) bytes rest on judges is = absurd judges
-
--- ---- lines in a row
-
-pub past_itself : (a : Reading) (x : List ℕ) → IsPast a a x x
-past_itself a x = record { ports = refl; script = λ more. refl; values = refl; last = refl }
-
--- what is given behind lines that ask for nothing is given with them
-pub gives_after : (a b c : Reading) (result : Result Outcome StepFault) (x y z : List ℕ) → IsPast a b x y → GivesLine b c result y z → GivesLine a c result x z
-gives_after a b c (Ok outcome.Skipped) x y z past gives = record {
-  ports = gives.ports ∙ past.ports;
-  script = λ more. past.script more ∙ gives.script more;
-  values = gives.values ∙ past.values;
-  last = gives.last ∙ past.last;
-}
-gives_after a b c (Ok outcome.End) x y z past gives = λ more. past.script more ∙ gives more
-gives_after a b c (Ok (outcome.Step of)) x y z past gives = record {
-  settings = gives.settings;
-  settable = rw (← past.ports) gives.settable;
-  set = rw (← past.values) gives.set;
-  step = λ more. past.script (suc more) ∙ gives.step more;
-  none_left = past.script 0 ∙ gives.none_left;
-}
-gives_after a b c (Err (Bad number reason)) x y z past gives = record {
-  bad = gives.bad;
-  told = gives.told;
-  line_is = gives.line_is;
-  reason_is = gives.reason_is;
-  last = gives.last;
-  script = λ more. past.script (suc more) ∙ gives.script more;
-  none_left = past.script 0 ∙ gives.none_left;
-}
-gives_after a b c (Err ReadFault) x y z past gives = record {
-  script = λ more. past.script more ∙ gives.script more;
-  values = gives.values ∙ past.values;
-  last = gives.last ∙ past.last;
-}

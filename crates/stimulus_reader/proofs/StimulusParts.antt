@@ -4,14 +4,6 @@ use Rattle.stimulus_reader.specs.LineReading.{HasFront, HasPart, StandsIn, Names
 use Rattle.stimulus_reader.specs.declared.line.Meaning.{Meaning}
 use Rattle.stimulus_reader.specs.declared.line.Meaning.TheVariants.{Skipped, Stepped, Refused}
 
--- as much as stands behind a part, and the part, are within the text
-pub stands_within : (text part : List ℕ) (n : ℕ) → StandsIn text part n → n + length part ≤ length text
-stands_within text part n s =
-    let whole = ap length s.is ∙ length-append s.before (part ++ s.after) in
-    let end = length-append part s.after in
-    let behind = s.behind_is in
-    omega arith
-
 -- a part of a word stands in the text in which the word does
 pub stands_in_word : (text left word rest part : List ℕ) (n : ℕ) → HasPart text [] left → HasPart left word rest → StandsIn word part n → StandsIn text part (n + length rest)
 stands_in_word text left word rest part n passed cut s = record {
@@ -39,9 +31,6 @@ stands_behind text word rest part n cut s = record {
   behind_is = s.behind_is;
 }
 
-pub stands_first : (text word rest : List ℕ) → HasPart text word rest → StandsIn text word (length rest)
-stands_first text word rest cut = record { before = cut.before; after = rest; is = cut.is; behind_is = refl }
-
 pub stands_in_front : (text front part : List ℕ) (n : ℕ) → HasFront text front → StandsIn front part n → StandsIn text part (n + (length text - length front))
 stands_in_front text front part n f s = record {
   before = s.before;
@@ -53,11 +42,6 @@ stands_in_front text front part n f s = record {
     let behind = s.behind_is in
     omega arith;
 }
-
-pub front_within : (text front : List ℕ) → HasFront text front → length front ≤ length text
-front_within text front f =
-    let whole = ap length f.is ∙ length-append front f.behind in
-    omega arith
 
 pub names_behind : (text word rest : List ℕ) (meaning : Meaning) → HasPart text word rest → NamesPartOf rest meaning → NamesPartOf text meaning
 names_behind text word rest Skipped cut names = tt

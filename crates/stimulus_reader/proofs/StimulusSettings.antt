@@ -89,9 +89,6 @@ parts_split xs name rest text first i is some name_is rest_is text_is =
     let behind : text ≡ drop (suc i) xs = text_is ∙ ap (drop 1) rest_is ∙ drop_one i xs in
     rw (name_is, behind) (sym (parts_some xs first i is some))
 
-pub form_kept : (name text : List ℕ) (holds : Bool) → holds ≡ (is_name name && nat_lt 0 (length text)) → named_part (Some (name, text)) ≡ (if holds then Some (name, text) else None)
-form_kept name text holds is = rw is refl
-
 -- ---- the input of a name
 
 -- the place that is found, counted from n, is that of an input
