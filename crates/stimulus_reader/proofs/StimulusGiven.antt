@@ -1,6 +1,5 @@
 -- What the reader gives, line by line.
-use Rattle.std.proofs.Common.{◌≡◌, ℕ, zero, suc, ◌+◌, ◌-◌, ◌<◌, ◌≤◌, Bool, true, false, List, [], ◌∷◌, ◌++◌, refl, sym, ap, subst, ◌∙◌, arith, Option, None, Some, Result, Ok, Err, if◌then◌else◌}
-use Rattle.sv_base.specs.declared.face.Port.{Port}
+use Rattle.std.proofs.Common.{◌≡◌, ℕ, zero, suc, ◌+◌, ◌-◌, Bool, false, List, [], ◌∷◌, ◌++◌, refl, sym, ap, ◌∙◌, arith, None, Result, Ok, Err}
 use Rattle.stimulus_reader.specs.declared.reason.Reason.{Reason}
 use Rattle.stimulus_reader.specs.declared.reason.Reason.TheVariants.{TooManySteps}
 use Rattle.stimulus_reader.specs.declared.found.Found.TheVariants as found
@@ -11,8 +10,8 @@ use Rattle.stimulus_reader.specs.declared.step.Outcome.{Outcome}
 use Rattle.stimulus_reader.specs.declared.step.Outcome.TheVariants as outcome
 use Rattle.stimulus_reader.specs.Stimulus.{Line, Meaning, Script, stopped, lines_of, span, limit_of, words_of, content_of, script_from, script_of_meaning, unless_limit, step_of}
 use Rattle.stimulus_reader.specs.Stimulus as asked
-use Rattle.stimulus_reader.specs.Reading.{Reading, script_left, passes_limit, IsStep, IsEnd, IsBad, IsInterrupted}
-use Rattle.stimulus_reader.specs.LineSource.{LeftSo, IsFound}
+use Rattle.stimulus_reader.specs.Reading.{Reading, script_left, passes_limit, IsStep, IsBad}
+use Rattle.stimulus_reader.specs.LineSource.{IsFound}
 use Rattle.stimulus_reader.specs.Judging.{line_in, meaning_in, IsBehind, Skips, Steps, Refuses, Judges, IsPast, GivesLine}
 use Rattle.stimulus_reader.proofs.StimulusJudging.{refused_no_limit}
 
@@ -50,9 +49,9 @@ skip_gives : (before mid after : Reading) (over : Bool) (bytes rest : List ℕ) 
 skip_gives before mid after over bytes rest on is skips = record {
   ports = skips.behind.ports ∙ on.ports;
   script = λ more.
-    line_script before mid over bytes rest on is more
-    ∙ ap (λ (m : Meaning). script_of_meaning more mid.number m (script_behind mid over rest more) (script_behind mid over rest (more - 1))) skips.meaning
-    ∙ sym (behind_script mid after over rest skips.behind more);
+      line_script before mid over bytes rest on is more
+      ∙ ap (λ (m : Meaning). script_of_meaning more mid.number m (script_behind mid over rest more) (script_behind mid over rest (more - 1))) skips.meaning
+      ∙ sym (behind_script mid after over rest skips.behind more);
   values = skips.values ∙ on.values;
   last = skips.last ∙ on.last;
 }
@@ -63,14 +62,14 @@ step_gives before mid after over of bytes rest on is steps = record {
   settable = rw (← on.ports) steps.settable;
   set = rw (← on.values) steps.values;
   step = λ more.
-    line_script before mid over bytes rest on is (suc more)
-    ∙ ap (λ (m : Meaning). script_of_meaning (suc more) mid.number m (script_behind mid over rest (suc more)) (script_behind mid over rest (suc more - 1))) steps.meaning
-    ∙ ap (λ (n : ℕ). asked.with_step (step_of of steps.settings) (script_behind mid over rest n)) (sub_one more)
-    ∙ ap (asked.with_step (step_of of steps.settings)) (sym (behind_script mid after over rest steps.behind more));
+      line_script before mid over bytes rest on is (suc more)
+      ∙ ap (λ (m : Meaning). script_of_meaning (suc more) mid.number m (script_behind mid over rest (suc more)) (script_behind mid over rest (suc more - 1))) steps.meaning
+      ∙ ap (λ (n : ℕ). asked.with_step (step_of of steps.settings) (script_behind mid over rest n)) (sub_one more)
+      ∙ ap (asked.with_step (step_of of steps.settings)) (sym (behind_script mid after over rest steps.behind more));
   none_left =
-    line_script before mid over bytes rest on is zero
-    ∙ ap (λ (m : Meaning). script_of_meaning zero mid.number m (script_behind mid over rest zero) (script_behind mid over rest (zero - 1))) steps.meaning
-    ∙ ap (λ (n : ℕ). stopped n TooManySteps []) (sym steps.last);
+      line_script before mid over bytes rest on is zero
+      ∙ ap (λ (m : Meaning). script_of_meaning zero mid.number m (script_behind mid over rest zero) (script_behind mid over rest (zero - 1))) steps.meaning
+      ∙ ap (λ (n : ℕ). stopped n TooManySteps []) (sym steps.last);
 }
 
 bad_gives : (before mid after : Reading) (over : Bool) (number : ℕ) (reason : Reason) (bytes rest : List ℕ) → ReadOn before mid → Found before mid over bytes rest → Refuses mid after over number reason → IsBad before after number reason bytes
@@ -83,13 +82,13 @@ bad_gives before mid after over number reason bytes rest on is bad =
       reason_is = refl;
       last = bad.last;
       script = λ more.
-        line_script before mid over bytes rest on is (suc more)
-        ∙ ap (λ (m : Meaning). script_of_meaning (suc more) mid.number m (script_behind mid over rest (suc more)) (script_behind mid over rest (suc more - 1))) bad.meaning
-        ∙ rw (bad.line_is, bad.reason_is) refl;
+          line_script before mid over bytes rest on is (suc more)
+          ∙ ap (λ (m : Meaning). script_of_meaning (suc more) mid.number m (script_behind mid over rest (suc more)) (script_behind mid over rest (suc more - 1))) bad.meaning
+          ∙ rw (bad.line_is, bad.reason_is) refl;
       none_left =
-        line_script before mid over bytes rest on is zero
-        ∙ ap (λ (m : Meaning). script_of_meaning zero mid.number m (script_behind mid over rest zero) (script_behind mid over rest (zero - 1))) bad.meaning
-        ∙ rw (none, bad.line_is) refl;
+          line_script before mid over bytes rest on is zero
+          ∙ ap (λ (m : Meaning). script_of_meaning zero mid.number m (script_behind mid over rest zero) (script_behind mid over rest (zero - 1))) bad.meaning
+          ∙ rw (none, bad.line_is) refl;
     }
 
 -- what the line that was found gives is what the reader makes of it

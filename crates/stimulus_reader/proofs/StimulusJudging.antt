@@ -1,5 +1,5 @@
 -- What a line makes of the script.
-use Rattle.std.proofs.Common.{◌≡◌, ℕ, zero, suc, ◌+◌, ◌-◌, ◌<◌, ◌≤◌, Bool, true, false, ◌==◌, List, [], ◌∷◌, ◌++◌, length, take, drop, Vec, Global, refl, sym, ap, subst, ◌∙◌, arith, length-append, Option, None, Some, IfErr, Result, Ok, Err, if◌then◌else◌}
+use Rattle.std.proofs.Common.{◌≡◌, ℕ, ◌+◌, ◌-◌, Bool, true, false, ◌==◌, List, [], ◌∷◌, ◌++◌, length, take, drop, Vec, Global, refl, sym, ap, subst, ◌∙◌, arith, length-append, Option, None, Some, IfErr, Result, Ok, Err, if◌then◌else◌}
 use Rattle.std.specs.List.{list_any}
 use Rattle.std.proofs.Math.Seq.{drop-append_seam, take-append_seam}
 use Rattle.sv_base.specs.declared.face.Class.{Class}
@@ -12,7 +12,7 @@ use Rattle.stimulus_reader.specs.declared.step.StepKind.{StepKind}
 use Rattle.stimulus_reader.specs.declared.step.StepKind.TheVariants as kind
 use Rattle.stimulus_reader.specs.Stimulus.{BadLine, Fault, Line, Meaning, Script, stopped, lines_of, span, limit_of, meaning_of_words, meaning_of_kind, meaning_of_settings, words_of, content_of, script_from, script_of_meaning, unless_limit, class_fault, unless_fault, unless_set, valued, value_in, set_input, input_from, setting_of_parts, setting_of, named_part, parts_of, with_setting, after_setting, settings_of, is_comment, kind_of}
 use Rattle.stimulus_reader.specs.Stimulus as asked
-use Rattle.stimulus_reader.specs.Reading.{Reading, script_left, passes_limit}
+use Rattle.stimulus_reader.specs.Reading.{Reading, passes_limit}
 use Rattle.stimulus_reader.specs.Fields.{reading_of, kept_of, bad_of}
 use Rattle.stimulus_reader.specs.LineReading.{StandsIn}
 use Rattle.stimulus_reader.specs.LineSource.{IsFound}

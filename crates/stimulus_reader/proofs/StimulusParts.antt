@@ -1,5 +1,5 @@
 -- Where parts of a text stand.
-use Rattle.std.proofs.Common.{◌≡◌, ℕ, ◌+◌, ◌-◌, ◌≤◌, List, [], ◌∷◌, ◌++◌, length, refl, sym, ap, ◌∙◌, arith, append_assoc, append-nil, length-append}
+use Rattle.std.proofs.Common.{ℕ, ◌+◌, ◌-◌, List, [], ◌++◌, length, refl, ap, ◌∙◌, arith, append_assoc, length-append}
 use Rattle.stimulus_reader.specs.LineReading.{HasFront, HasPart, StandsIn, NamesPartOf}
 use Rattle.stimulus_reader.specs.declared.line.Meaning.{Meaning}
 use Rattle.stimulus_reader.specs.declared.line.Meaning.TheVariants.{Skipped, Stepped, Refused}
@@ -37,10 +37,10 @@ stands_in_front text front part n f s = record {
   after = s.after ++ f.behind;
   is = f.is ∙ ap (λ (xs : List ℕ). xs ++ f.behind) s.is ∙ simp append_assoc;
   behind_is =
-    let whole = ap length f.is ∙ length-append front f.behind in
-    let end = length-append s.after f.behind in
-    let behind = s.behind_is in
-    omega arith;
+      let whole = ap length f.is ∙ length-append front f.behind in
+      let end = length-append s.after f.behind in
+      let behind = s.behind_is in
+      omega arith;
 }
 
 pub names_behind : (text word rest : List ℕ) (meaning : Meaning) → HasPart text word rest → NamesPartOf rest meaning → NamesPartOf text meaning

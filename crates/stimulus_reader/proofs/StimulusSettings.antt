@@ -8,17 +8,14 @@ use Rattle.std.proofs.lemmas.List.{reverse-append}
 use Rattle.std.proofs.lemmas.Bool.Decides.{nat_tests}
 use Rattle.std.proofs.lemmas.List.Folds.{list_any-append}
 use Rattle.sv_base.specs.declared.face.Port.{Port}
-use Rattle.bit_ops.specs.declared.value.Bits.{Bits}
 use Rattle.std.proofs.lemmas.Option.{get_or_from_slice_get}
 use Rattle.sv_base.specs.Steps.{Setting as Assigned}
-use Rattle.bit_ops.specs.Width.{IsWidth}
 use Rattle.stimulus_reader.specs.declared.step.StepKind.{StepKind}
-use Rattle.stimulus_reader.specs.declared.reason.Reason.{Reason}
 use Rattle.stimulus_reader.specs.declared.reason.Reason.TheVariants.{SetTwice}
 use Rattle.stimulus_reader.specs.declared.setting.Setting.{Setting}
 use Rattle.stimulus_reader.specs.declared.setting.BadWord.{BadWord}
 use Rattle.sv_base.specs.Spelling.{is_name}
-use Rattle.stimulus_reader.specs.Stimulus.{Fault, digit_of, more_digits, number_from, word_in, parts_of, before_first_part, named_part, is_input, input_from, setting_of, setting_of_parts, set_input, class_fault, unless_fault, unless_set, valued, value_in}
+use Rattle.stimulus_reader.specs.Stimulus.{Fault, digit_of, more_digits, number_from, parts_of, before_first_part, named_part, is_input, input_from, setting_of, setting_of_parts, set_input, class_fault, valued, value_in}
 use Rattle.stimulus_reader.specs.LineReading.{IsInputOf, IsFitting, StandsIn, ports_set}
 
 -- ---- numbers
@@ -144,7 +141,6 @@ any_mapped i (s ∷ set) = ap (λ b. (s.port == i) || b) (any_mapped i set)
 
 pub any_set : (i : ℕ) (set : List Setting) → list_any (λ v. v == i) (ports_set set) ≡ list_any (λ s. s.port == i) set
 any_set i set = any_reversed (λ v. v == i) (map (λ (s : Setting). s.port) set) ∙ any_mapped i set
-
 
 -- a value of one bit or more holds a 1
 pub one_fits : (width : ℕ) → 1 ≤ width → 1 < 2 ^ width

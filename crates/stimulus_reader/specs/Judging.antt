@@ -1,8 +1,8 @@
 -- What one line makes of a reading.
-use Rattle.std.specs.Prelude.{◌≡◌, ℕ, ◌+◌, Bool, List, [], Option, None, Some, Result, Ok, Err}
+use Rattle.std.specs.Prelude.{◌≡◌, ℕ, ◌+◌, Bool, List, [], None, Some, Result, Ok, Err}
 use Rattle.std.specs.List.{AllByRecursion}
 use Rattle.sv_base.specs.Steps.{Setting, set_all}
-use Rattle.stimulus_reader.specs.Stimulus.{Line, Fault, Meaning, Skipped, Stepped, Refused, step_of, lines_of, words_of, content_of, span, meaning_of_words}
+use Rattle.stimulus_reader.specs.Stimulus.{Line, Fault, Meaning, Skipped, Stepped, Refused, step_of, words_of, content_of, span, meaning_of_words}
 use Rattle.stimulus_reader.specs.Reading.{Reading, IsSettable, IsStep, IsEnd, IsBad, IsInterrupted, script_left}
 use Rattle.stimulus_reader.specs.declared.reason.Reason.{Reason}
 use Rattle.stimulus_reader.specs.declared.step.StepKind.{StepKind}

@@ -1,5 +1,5 @@
 -- What is read from a source of a stimulus.
-use Rattle.std.specs.Prelude.{◌≡◌, ℕ, ◌+◌, ◌<◌, ◌≤◌, true, false, ◌==◌, List, [], ◌∷◌, ◌++◌, length, ⊤, Option, None, Some}
+use Rattle.std.specs.Prelude.{◌≡◌, ℕ, ◌+◌, ◌<◌, ◌≤◌, true, false, ◌==◌, List, [], ◌∷◌, length, ⊤, Option, None, Some}
 use Rattle.std.specs.List.{AllByRecursion}
 use Rattle.stimulus_reader.specs.declared.reason.Reason.TheVariants.{LineTooLong, FileTooLong}
 use Rattle.stimulus_reader.specs.declared.found.Found.{Found}

@@ -129,10 +129,7 @@ const SCRIPTS: [(&str, &str); 48] = [
     ("d a=1 a=z\n", "! 1 SetTwice a"),
     ("d a=2\n", "! 1 NoValue 2"),
     ("d w=100\n", "! 1 NoValue 100"),
-    (
-        "d w=00000000000000001\n",
-        "! 1 NoValue 00000000000000001",
-    ),
+    ("d w=00000000000000001\n", "! 1 NoValue 00000000000000001"),
     ("d w=0x1\n", "! 1 NoValue 0x1"),
     ("d a=1=1\n", "! 1 NoValue 1=1"),
     ("d a=\n", "! 1 NoSetting a="),
@@ -146,10 +143,7 @@ const SCRIPTS: [(&str, &str); 48] = [
     ("d a=1\r", "! 1 NoValue 1\r"),
     ("d a=2 \r\n", "! 1 NoValue 2"),
     ("d\r", "! 1 NoStep d\r"),
-    (
-        "d a=1\n\n# c\nd w=2 z=1 v\n",
-        ";d 1 0 0/ 0! 4 NoInput z",
-    ),
+    ("d a=1\n\n# c\nd w=2 z=1 v\n", ";d 1 0 0/ 0! 4 NoInput z"),
     ("d a=1 w=2\nd w=3\n", ";d 1 2 0/ 0;d 1 3 0/ 0."),
     (
         "c clk=1\nd a=1\nc clk=0\n",
@@ -262,11 +256,7 @@ fn value_at(face: &Face, reader: &StepReader, place: usize) -> Option<Bits>
 }
 
 // The value of each port in port order, `-` where it is an output, each with a blank behind it.
-fn values(
-    rt: &(impl AllocGlobal + Abort),
-    face: &Face,
-    reader: &StepReader,
-) -> Result<String, Fail>
+fn values(rt: &(impl AllocGlobal + Abort), face: &Face, reader: &StepReader) -> Result<String, Fail>
     requires { reader.now.ports ≡ face.now.ports }
 {
     let mut told = String::new(rt.alloc());

@@ -1,5 +1,3 @@
-use Rattle.std.proofs.Common.{sym, subst}
-use Rattle.stimulus_reader.specs.LineReading.{HasFront}
 use Rattle.stimulus_reader.proofs.StimulusLines.{cr_front}
 use Rattle.stimulus_reader.proofs.line.content.Goals as goal
 

@@ -1,4 +1,4 @@
-use Rattle.std.proofs.Common.{◌≡◌, ◌∙◌, sym, ap, map, subst, List, ℕ}
+use Rattle.std.proofs.Common.{◌∙◌, map}
 use Rattle.stimulus_reader.specs.LineReading.{Fits}
 use Rattle.stimulus_reader.proofs.StimulusValues.{set_more, set_widths, all_or}
 use Rattle.stimulus_reader.proofs.step.set_values.Goals as goal

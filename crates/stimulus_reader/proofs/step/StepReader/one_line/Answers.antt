@@ -2,7 +2,7 @@ use Rattle.std.proofs.Common.{ap}
 use Rattle.stimulus_reader.specs.Reading.{Reading}
 use Rattle.stimulus_reader.proofs.StimulusBytes.{left_as}
 use Rattle.stimulus_reader.proofs.StimulusJudging.{found_kept}
-use Rattle.stimulus_reader.proofs.StimulusGiven.{ReadOn, line_gives}
+use Rattle.stimulus_reader.proofs.StimulusGiven.{line_gives}
 use Rattle.stimulus_reader.proofs.step.StepReader.one_line.Goals as goal
 
 pub returns-in-Ok-Line-clause-gives : goal.returns-in-Ok-Line-clause-gives
