@@ -1,17 +1,12 @@
 -- The lines of bytes that were read one after another.
 use Rattle.std.proofs.Common.{◌≡◌, ℕ, suc, ◌+◌, ◌<◌, ◌≤◌, Bool, true, false, ◌==◌, List, [], ◌∷◌, ◌++◌, length, refl, sym, ap, subst, ◌∙◌, arith, append-nil, Option, None, Some}
-use Rattle.std.specs.List.{AllByRecursion}
 use Rattle.std.proofs.lemmas.Bool.Decides.{nat_tests}
 use Rattle.stimulus_reader.specs.declared.reason.Reason.TheVariants.{LineTooLong, FileTooLong}
 use Rattle.stimulus_reader.specs.declared.found.Found.{Found}
 use Rattle.stimulus_reader.specs.declared.found.Found.TheVariants as found
 use Rattle.stimulus_reader.specs.declared.found.Turn.TheVariants as turn
 use Rattle.stimulus_reader.specs.Stimulus.{Line, onto_line, lines_of, span, limit_of, line_limit, file_limit}
-use Rattle.stimulus_reader.specs.StimulusSource.{LeftSo, IsNextByte, IsTurn, IsFound}
-
--- no byte is an LF
-abbrev pub NoLf : List ℕ → Type 0
-NoLf bytes = AllByRecursion (λ b. (b == 10) ≡ false) bytes
+use Rattle.stimulus_reader.specs.LineSource.{LeftSo, IsNextByte, HasNoLf, IsTurn, IsFound}
 
 -- ---- what is left
 
@@ -27,18 +22,13 @@ left_as P Q None b as_well p = p
 left_as P Q (Some x) None as_well p = p
 left_as P Q (Some x) (Some y) as_well p = as_well x y p
 
--- nothing was read
-pub left_itself : (P : List ℕ → List ℕ → Type 0) (a : Option (List ℕ)) → ((x : List ℕ) → P x x) → LeftSo a a P
-left_itself P None same = refl
-left_itself P (Some x) same = same x
-
 -- ---- lines
 
-lf_line : (xs rest : List ℕ) → NoLf xs → lines_of (xs ++ 10 ∷ rest) ≡ record { text = xs; ended = true } ∷ lines_of rest
+lf_line : (xs rest : List ℕ) → HasNoLf xs → lines_of (xs ++ 10 ∷ rest) ≡ record { text = xs; ended = true } ∷ lines_of rest
 lf_line [] rest none = refl
 lf_line (x ∷ xs) rest none = rw none.0 (ap (onto_line x) (lf_line xs rest none.1))
 
-last_line : (x : ℕ) (xs : List ℕ) → NoLf (x ∷ xs) → lines_of (x ∷ xs) ≡ record { text = x ∷ xs; ended = false } ∷ []
+last_line : (x : ℕ) (xs : List ℕ) → HasNoLf (x ∷ xs) → lines_of (x ∷ xs) ≡ record { text = x ∷ xs; ended = false } ∷ []
 last_line x [] none = rw none.0 refl
 last_line x (y ∷ xs) none = rw none.0 (ap (onto_line x) (last_line y xs none.1))
 
@@ -56,7 +46,7 @@ first_long : (x : ℕ) (rest : List ℕ) → (x == 10) ≡ false → (lines : Li
 first_long x rest other [] is = record { line = record { text = x ∷ []; ended = false }; lines = []; is = rw other (ap (onto_line x) is); long = omega arith }
 first_long x rest other (line ∷ lines) is = record { line = record { text = x ∷ line.text; ended = line.ended }; lines = lines; is = rw other (ap (onto_line x) is); long = omega arith }
 
-long_line : (xs rest : List ℕ) (b : ℕ) → NoLf xs → (b == 10) ≡ false → LongLine (xs ++ b ∷ rest) (suc (length xs))
+long_line : (xs rest : List ℕ) (b : ℕ) → HasNoLf xs → (b == 10) ≡ false → LongLine (xs ++ b ∷ rest) (suc (length xs))
 long_line [] rest b none other = first_long b rest other (lines_of rest) refl
 long_line (x ∷ xs) rest b none other = onto_long x (xs ++ b ∷ rest) (suc (length xs)) none.0 (long_line xs rest b none.1 other)
 
@@ -76,7 +66,7 @@ limit_late at line late past = grind (arith, nat_tests)
 
 -- ---- what the next byte makes of a line
 
-over_file : (at : ℕ) (line rest : List ℕ) (b : ℕ) (lf : Bool) → (b == 10) ≡ lf → NoLf line → length line ≤ line_limit → at + length line ≡ file_limit → (length line ≡ line_limit → b ≡ 10) → IsFound at line (found.Long FileTooLong) (line ++ b ∷ rest) rest
+over_file : (at : ℕ) (line rest : List ℕ) (b : ℕ) (lf : Bool) → (b == 10) ≡ lf → HasNoLf line → length line ≤ line_limit → at + length line ≡ file_limit → (length line ≡ line_limit → b ≡ 10) → IsFound at line (found.Long FileTooLong) (line ++ b ∷ rest) rest
 over_file at line rest b true is none short full last =
     let ten : b ≡ 10 = grind (arith, nat_tests) in
     let whole : Line = record { text = line; ended = true } in
@@ -87,17 +77,17 @@ over_file at line rest b false is none short full last =
     let apart : length line ≡ line_limit → ⊥ = λ e. let ten : b ≡ 10 = last e in let yes : (b == 10) ≡ true = grind (arith, nat_tests) in absurd (cc) in
     (l.line, l.lines, l.is, limit_late at l.line (omega arith) (omega arith))
 
-over_line : (at : ℕ) (line rest : List ℕ) (b : ℕ) → (b == 10) ≡ false → NoLf line → length line ≡ line_limit → at + length line ≤ file_limit → IsFound at line (found.Long LineTooLong) (line ++ b ∷ rest) rest
+over_line : (at : ℕ) (line rest : List ℕ) (b : ℕ) → (b == 10) ≡ false → HasNoLf line → length line ≡ line_limit → at + length line ≤ file_limit → IsFound at line (found.Long LineTooLong) (line ++ b ∷ rest) rest
 over_line at line rest b is none full early =
     let l = long_line line rest b none is in
     let long : suc (length line) ≤ length l.line.text = l.long in
     (l.line, l.lines, l.is, limit_line at l.line (omega arith) (omega arith))
 
-at_end : (at : ℕ) (line : List ℕ) → NoLf line → 0 < length line → length line ≤ line_limit → at + length line ≤ file_limit → IsFound at line (found.Line false) line []
+at_end : (at : ℕ) (line : List ℕ) → HasNoLf line → 0 < length line → length line ≤ line_limit → at + length line ≤ file_limit → IsFound at line (found.Line false) line []
 at_end at [] none some short early = absurd (omega arith)
 at_end at (x ∷ xs) none some short early = (last_line x xs none, limit_none at (record { text = x ∷ xs; ended = false }) short (omega arith))
 
-at_lf : (at : ℕ) (line rest : List ℕ) → NoLf line → length line ≤ line_limit → at + length line < file_limit → IsFound at line (found.Line true) (line ++ 10 ∷ rest) rest
+at_lf : (at : ℕ) (line rest : List ℕ) → HasNoLf line → length line ≤ line_limit → at + length line < file_limit → IsFound at line (found.Line true) (line ++ 10 ∷ rest) rest
 at_lf at line rest none short early = (lf_line line rest none, limit_none at (record { text = line; ended = true }) short (omega arith))
 
 -- no byte and none to come
@@ -105,7 +95,7 @@ at_none : (line : List ℕ) → length line ≡ 0 → line ++ [] ≡ []
 at_none [] none = refl
 at_none (x ∷ xs) none = absurd (omega arith)
 
-found_after : (at : ℕ) (line : List ℕ) (byte : Option ℕ) (what : Found) → NoLf line → length line ≤ line_limit → at + length line ≤ file_limit → IsTurn at (length line) byte (turn.Done what) → (x y z : List ℕ) → x ≡ line ++ y → IsNextByte byte y z → IsFound at line what x z
+found_after : (at : ℕ) (line : List ℕ) (byte : Option ℕ) (what : Found) → HasNoLf line → length line ≤ line_limit → at + length line ≤ file_limit → IsTurn at (length line) byte (turn.Done what) → (x y z : List ℕ) → x ≡ line ++ y → IsNextByte byte y z → IsFound at line what x z
 found_after at line None found.End none short early turn x y z read next =
     read ∙ ap (λ (ys : List ℕ). line ++ ys) next.0 ∙ at_none line turn
 found_after at line None (found.Line over) none short early turn x y z read next =
@@ -125,7 +115,8 @@ found_after at line (Some b) (found.Long FileTooLong) none short early turn x y 
     subst (λ (xs : List ℕ). IsFound at line (found.Long FileTooLong) xs z) (sym (read ∙ ap (λ (ys : List ℕ). line ++ ys) next)) (over_file at line z b (b == 10) refl none short turn.0 turn.1)
 found_after at line (Some b) (found.Long reason) none short early turn x y z read next = absurd turn
 
-pub found_in : (a b c : Option (List ℕ)) (at n : ℕ) (line : List ℕ) (byte : Option ℕ) (what : Found) → LeftSo a b (λ bytes rest. bytes ≡ line ++ rest) → LeftSo b c (IsNextByte byte) → NoLf line → length line ≤ line_limit → at + length line ≤ file_limit → n ≡ length line → IsTurn at n byte (turn.Done what) → LeftSo a c (IsFound at line what)
-found_in a b c at n line byte what before next none short early n_is is_turn =
+-- what a line that goes on behind bytes that were read before comes to
+pub found_in : (a b c : Option (List ℕ)) (at n : ℕ) (old line : List ℕ) (byte : Option ℕ) (what : Found) → LeftSo a b (λ bytes rest. old ++ bytes ≡ line ++ rest) → LeftSo b c (IsNextByte byte) → HasNoLf line → length line ≤ line_limit → at + length line ≤ file_limit → n ≡ length line → IsTurn at n byte (turn.Done what) → LeftSo a c (λ bytes rest. IsFound at line what (old ++ bytes) rest)
+found_in a b c at n old line byte what before next none short early n_is is_turn =
     let so : IsTurn at (length line) byte (turn.Done what) = subst (λ (m : ℕ). IsTurn at m byte (turn.Done what)) n_is is_turn in
-    left_after (λ bytes rest. bytes ≡ line ++ rest) (IsNextByte byte) (IsFound at line what) a b c (found_after at line byte what none short early so) before next
+    left_after (λ bytes rest. old ++ bytes ≡ line ++ rest) (IsNextByte byte) (λ bytes rest. IsFound at line what (old ++ bytes) rest) a b c (λ x y z p q. found_after at line byte what none short early so (old ++ x) y z p q) before next

@@ -1,23 +1,22 @@
 -- What the parts of a setting say.
-use Rattle.std.proofs.Common.{◌≡◌, ℕ, zero, suc, ◌+◌, ◌*◌, ◌^◌, ◌<◌, ◌≤◌, Bool, true, false, cond, ◌&&◌, ◌||◌, ◌==◌, List, [], ◌∷◌, length, take, drop, get_or, map, reverse, refl, sym, ap, subst, ◌∙◌, arith, add-one, nat_lt, if◌then◌else◌, Option, None, Some, Err, Result, MatchOption, slice_get, drop-cons}
+use Rattle.std.proofs.Common.{◌≡◌, ℕ, zero, suc, ◌+◌, ◌*◌, ◌^◌, ◌<◌, ◌≤◌, Bool, true, false, cond, ◌&&◌, ◌||◌, ◌==◌, List, [], ◌∷◌, ◌++◌, length, take, drop, get_or, map, reverse, append_assoc, append-nil, IfOk, Ok, refl, sym, ap, subst, ◌∙◌, arith, add-one, nat_lt, if◌then◌else◌, Option, None, Some, Err, Result, MatchOption, slice_get, drop-cons}
 use Rattle.std.specs.List.{position, position_from, list_any, AllByRecursion}
 use Rattle.std.specs.Str.{bytes_eq}
 use Rattle.std.proofs.Math.Nat.{pow-le-pow_right, pow-suc}
 use Rattle.std.proofs.lemmas.Iterator.Adapters.{position_from-zero}
 use Rattle.std.proofs.lemmas.List.{reverse-append}
+use Rattle.std.proofs.lemmas.Bool.Decides.{nat_tests}
 use Rattle.std.proofs.lemmas.List.Folds.{list_any-append}
-use Rattle.net_ir.specs.declared.design.Role.{Role}
-use Rattle.net_ir.specs.declared.design.Role.TheVariants.{Input, Output}
-use Rattle.net_ir.specs.declared.design.Var.{Var}
-use Rattle.net_ir.specs.Plain.{HaveInitialValues}
-use Rattle.bit_ops.specs.declared.value.Bits.{Bits}
+use Rattle.sv_base.specs.declared.face.Port.{Port}
 use Rattle.std.proofs.lemmas.Option.{get_or_from_slice_get}
-use Rattle.net_ir.specs.Run.{Setting as Assigned}
+use Rattle.sv_base.specs.Steps.{Setting as Assigned}
+use Rattle.stimulus_reader.specs.declared.step.StepKind.{StepKind}
 use Rattle.stimulus_reader.specs.declared.reason.Reason.TheVariants.{SetTwice}
 use Rattle.stimulus_reader.specs.declared.setting.Setting.{Setting}
+use Rattle.stimulus_reader.specs.declared.setting.BadWord.{BadWord}
 use Rattle.sv_base.specs.Spelling.{is_name}
-use Rattle.stimulus_reader.specs.Stimulus.{Fault, digit_of, more_digits, number_from, word_in, parts_of, before_first_part, named_part, is_input, input_from, setting_of, setting_of_parts, set_input, valued}
-use Rattle.stimulus_reader.specs.StimulusReading.{IsInputOf, IsSettable, inputs_set}
+use Rattle.stimulus_reader.specs.Stimulus.{Fault, digit_of, more_digits, number_from, parts_of, before_first_part, named_part, is_input, input_from, setting_of, setting_of_parts, set_input, class_fault, valued, value_in}
+use Rattle.stimulus_reader.specs.LineReading.{IsInputOf, IsFitting, StandsIn, ports_set}
 
 -- ---- numbers
 
@@ -87,48 +86,41 @@ parts_split xs name rest text first i is some name_is rest_is text_is =
     let behind : text ≡ drop (suc i) xs = text_is ∙ ap (drop 1) rest_is ∙ drop_one i xs in
     rw (name_is, behind) (sym (parts_some xs first i is some))
 
-pub form_kept : (name text : List ℕ) (holds : Bool) → holds ≡ (is_name name && nat_lt 0 (length text)) → named_part (Some (name, text)) ≡ (if holds then Some (name, text) else None)
-form_kept name text holds is = rw is refl
-
 -- ---- the input of a name
 
--- the number that is found, counted from n, is that of an input
-abbrev FindsFrom : ℕ → List Var → List ℕ → Option ℕ → Type 0
-FindsFrom n vars name None = input_from n vars name ≡ None
-FindsFrom n vars name (Some i) = (k : ℕ) × (v : Var) × (i ≡ n + k) × (slice_get vars k ≡ Some v) × (v.role ≡ Input) × (input_from n vars name ≡ Some (i, v))
-
-is_the_input : (role : Role) → is_input role ≡ true → role ≡ Input
-is_the_input Input e = refl
-is_the_input Output e = cc
+-- the place that is found, counted from n, is that of an input
+abbrev FindsFrom : ℕ → List Port → List ℕ → Option ℕ → Type 0
+FindsFrom n ports name None = input_from n ports name ≡ None
+FindsFrom n ports name (Some i) = (k : ℕ) × (p : Port) × (i ≡ n + k) × (slice_get ports k ≡ Some p) × (is_input p.class ≡ true) × (input_from n ports name ≡ Some (i, p))
 
 both_left : (a b : Bool) → (a && b) ≡ true → b ≡ true
 both_left true b e = e
 both_left false b e = cc
 
-finds_behind : (n : ℕ) (v : Var) (vars : List Var) (name : List ℕ) (first : Option ℕ) → (bytes_eq v.name name && is_input v.role) ≡ false → FindsFrom (n + 1) vars name first → FindsFrom n (v ∷ vars) name first
-finds_behind n v vars name None not_here finds = rw not_here finds
-finds_behind n v vars name (Some i) not_here finds = (suc finds.0, finds.1, omega arith, finds.3, finds.4, rw not_here finds.5)
+finds_behind : (n : ℕ) (p : Port) (ports : List Port) (name : List ℕ) (first : Option ℕ) → (bytes_eq p.name name && is_input p.class) ≡ false → FindsFrom (n + 1) ports name first → FindsFrom n (p ∷ ports) name first
+finds_behind n p ports name None not_here finds = rw not_here finds
+finds_behind n p ports name (Some i) not_here finds = (suc finds.0, finds.1, omega arith, finds.3, finds.4, rw not_here finds.5)
 
-abbrev first_input : ℕ → List Var → List ℕ → Option ℕ
-first_input n vars name = position_from (λ v. bytes_eq v.name name && is_input v.role) n vars
+abbrev first_input : ℕ → List Port → List ℕ → Option ℕ
+first_input n ports name = position_from (λ v. bytes_eq v.name name && is_input v.class) n ports
 
-finds_at : (n : ℕ) (v : Var) (vars : List Var) (name : List ℕ) (here : Bool) → (bytes_eq v.name name && is_input v.role) ≡ here → FindsFrom (n + 1) vars name (first_input (n + 1) vars name) → FindsFrom n (v ∷ vars) name (cond here (Some n) (first_input (n + 1) vars name))
-finds_at n v vars name true is finds = (0, v, omega arith, refl, is_the_input v.role (both_left (bytes_eq v.name name) (is_input v.role) is), rw is refl)
-finds_at n v vars name false is finds = finds_behind n v vars name (first_input (n + 1) vars name) is finds
+finds_at : (n : ℕ) (v : Port) (ports : List Port) (name : List ℕ) (here : Bool) → (bytes_eq v.name name && is_input v.class) ≡ here → FindsFrom (n + 1) ports name (first_input (n + 1) ports name) → FindsFrom n (v ∷ ports) name (cond here (Some n) (first_input (n + 1) ports name))
+finds_at n v ports name true is finds = (0, v, omega arith, refl, both_left (bytes_eq v.name name) (is_input v.class) is, rw is refl)
+finds_at n v ports name false is finds = finds_behind n v ports name (first_input (n + 1) ports name) is finds
 
-finds_from : (n : ℕ) (vars : List Var) (name : List ℕ) → FindsFrom n vars name (first_input n vars name)
+finds_from : (n : ℕ) (ports : List Port) (name : List ℕ) → FindsFrom n ports name (first_input n ports name)
 finds_from n [] name = refl
-finds_from n (v ∷ vars) name = finds_at n v vars name (bytes_eq v.name name && is_input v.role) refl (finds_from (n + 1) vars name)
+finds_from n (v ∷ ports) name = finds_at n v ports name (bytes_eq v.name name && is_input v.class) refl (finds_from (n + 1) ports name)
 
-finds_first : (vars : List Var) (name : List ℕ) (first : Option ℕ) → first ≡ position (λ v. bytes_eq v.name name && is_input v.role) vars → FindsFrom 0 vars name first
-finds_first vars name first is = rw (is, position_from-zero (λ v. bytes_eq v.name name && is_input v.role) vars) (finds_from 0 vars name)
+finds_first : (ports : List Port) (name : List ℕ) (first : Option ℕ) → first ≡ position (λ v. bytes_eq v.name name && is_input v.class) ports → FindsFrom 0 ports name first
+finds_first ports name first is = rw (is, position_from-zero (λ v. bytes_eq v.name name && is_input v.class) ports) (finds_from 0 ports name)
 
-pub input_of : (vars : List Var) (name : List ℕ) (first : Option ℕ) → first ≡ position (λ v. bytes_eq v.name name && is_input v.role) vars → MatchOption first (input_from 0 vars name ≡ None) (IsInputOf vars name)
-input_of vars name None is = finds_first vars name None is
-input_of vars name (Some i) is =
-    let f = finds_first vars name (Some i) is in
+pub input_of : (ports : List Port) (name : List ℕ) (first : Option ℕ) → first ≡ position (λ v. bytes_eq v.name name && is_input v.class) ports → MatchOption first (input_from 0 ports name ≡ None) (IsInputOf ports name)
+input_of ports name None is = finds_first ports name None is
+input_of ports name (Some i) is =
+    let f = finds_first ports name (Some i) is in
     let same : f.0 ≡ i = let e = f.2 in omega arith in
-    record { var = f.1; at = subst (λ k. slice_get vars k ≡ Some f.1) same f.3; role = f.4; found = f.5 }
+    record { port = f.1; at = subst (λ k. slice_get ports k ≡ Some f.1) same f.3; input = f.4; found = f.5 }
 
 -- ---- repetitions
 
@@ -138,48 +130,109 @@ or_turned true false c e = e
 or_turned false true c e = refl
 or_turned false false c e = e
 
-any_reversed : (p : ℕ → Bool) (xs : List ℕ) → list_any p (reverse xs) ≡ list_any p xs
+pub any_reversed : (p : ℕ → Bool) (xs : List ℕ) → list_any p (reverse xs) ≡ list_any p xs
 any_reversed p [] = refl
 any_reversed p (x ∷ xs) =
     ap (list_any p) (reverse-append (x ∷ []) xs) ∙ list_any-append p (reverse xs) (x ∷ []) ∙ or_turned (list_any p (reverse xs)) (p x) (list_any p xs) (any_reversed p xs)
 
-any_mapped : (i : ℕ) (set : List Setting) → list_any (λ v. v == i) (map (λ (s : Setting). s.var) set) ≡ list_any (λ s. s.var == i) set
+any_mapped : (i : ℕ) (set : List Setting) → list_any (λ v. v == i) (map (λ (s : Setting). s.port) set) ≡ list_any (λ s. s.port == i) set
 any_mapped i [] = refl
-any_mapped i (s ∷ set) = ap (λ b. (s.var == i) || b) (any_mapped i set)
+any_mapped i (s ∷ set) = ap (λ b. (s.port == i) || b) (any_mapped i set)
 
-any_set : (i : ℕ) (set : List Setting) → list_any (λ v. v == i) (inputs_set set) ≡ list_any (λ s. s.var == i) set
-any_set i set = any_reversed (λ v. v == i) (map (λ (s : Setting). s.var) set) ∙ any_mapped i set
+pub any_set : (i : ℕ) (set : List Setting) → list_any (λ v. v == i) (ports_set set) ≡ list_any (λ s. s.port == i) set
+any_set i set = any_reversed (λ v. v == i) (map (λ (s : Setting). s.port) set) ∙ any_mapped i set
+
+-- a value of one bit or more holds a 1
+pub one_fits : (width : ℕ) → 1 ≤ width → 1 < 2 ^ width
+one_fits width some =
+    let grows : 2 ^ 1 ≤ 2 ^ width = pow-le-pow_right {n = 2} (omega arith) {i = 1} {j = width} some in
+    let two : 2 ^ 1 ≡ 2 = refl in
+    omega arith
+
+-- ---- the parts of a word are the word
+
+PartsAre : List ℕ → Option (List ℕ × List ℕ) → Type 0
+PartsAre xs None = Unit {0}
+PartsAre xs (Some p) = xs ≡ p.0 ++ 61 ∷ p.1
+
+parts_behind : (x : ℕ) (xs : List ℕ) (parts : Option (List ℕ × List ℕ)) → PartsAre xs parts → PartsAre (x ∷ xs) (before_first_part x parts)
+unfolding PartsAre
+parts_behind x xs None are = tt
+parts_behind x xs (Some p) are = ap (λ (ys : List ℕ). x ∷ ys) are
+
+parts_here : (x : ℕ) (xs : List ℕ) (here : Bool) → (x == 61) ≡ here → PartsAre xs (parts_of xs) → PartsAre (x ∷ xs) (if here then Some ([], xs) else before_first_part x (parts_of xs))
+unfolding PartsAre
+parts_here x xs true is are = let same : x ≡ 61 = grind (arith, nat_tests) in ap (λ (y : ℕ). y ∷ xs) same
+parts_here x xs false is are = parts_behind x xs (parts_of xs) are
+
+parts_are : (xs : List ℕ) → PartsAre xs (parts_of xs)
+unfolding PartsAre
+parts_are [] = tt
+parts_are (x ∷ xs) = parts_here x xs (x == 61) refl (parts_are xs)
+
+named_are : (xs name text : List ℕ) (parts : Option (List ℕ × List ℕ)) → PartsAre xs parts → Some (name, text) ≡ named_part parts → xs ≡ name ++ 61 ∷ text
+unfolding PartsAre
+named_are xs name text None are is = absurd (cc)
+named_are xs name text (Some p) are is =
+    elim (is_name p.0 && nat_lt 0 (length p.1)) as (λ b. Some (name, text) ≡ (if b then Some p else None) → xs ≡ name ++ 61 ∷ text) [
+      | true ↦ λ is. let same : p ≡ (name, text) = cc in subst (λ (q : List ℕ × List ℕ). xs ≡ q.0 ++ 61 ∷ q.1) same are
+      | false ↦ λ is. absurd (cc)
+    ] is
+
+-- a name, the `=` and a text that were found are the word
+pub parts_whole : (word name text : List ℕ) → Some (name, text) ≡ named_part (parts_of word) → word ≡ name ++ 61 ∷ text
+parts_whole word name text is = named_are word name text (parts_of word) (parts_are word) is
+
+-- ---- where a part stands
+
+pub whole_stands : (word : List ℕ) → StandsIn word word 0
+whole_stands word = record { before = []; after = []; is = sym (append-nil word); behind_is = refl }
+
+pub name_stands : (name text : List ℕ) → StandsIn (name ++ 61 ∷ text) name (length text + 1)
+name_stands name text = record { before = []; after = 61 ∷ text; is = refl; behind_is = omega arith }
+
+pub text_stands : (name text : List ℕ) → StandsIn (name ++ 61 ∷ text) text 0
+text_stands name text = record { before = name ++ 61 ∷ []; after = []; is = simp (append_assoc, append-nil); behind_is = refl }
 
 -- ---- one setting
 
-all_at : {X : Type 0} (P : X → Type 0) (xs : List X) (i : ℕ) (x : X) → AllByRecursion P xs → slice_get xs i ≡ Some x → P x
+pub set_twice : (of : StepKind) (set : List Setting) (name text : List ℕ) (i : ℕ) (port : Port) → class_fault of port.class port.width ≡ None → list_any (λ s. s.port == i) set ≡ true → Err (record { reason = SetTwice; word = name }) ≡ set_input of (ports_set set) name text (Some (i, port))
+set_twice of set name text i port allowed twice =
+    let again : list_any (λ v. v == i) (ports_set set) ≡ true = any_set i set ∙ twice in
+    rw (allowed, again) refl
+
+pub set_once : (of : StepKind) (set : List Setting) (name text : List ℕ) (i : ℕ) (port : Port) (value : Option ℕ) → class_fault of port.class port.width ≡ None → list_any (λ s. s.port == i) set ≡ false → value ≡ value_in of port.width text → valued i text value ≡ set_input of (ports_set set) name text (Some (i, port))
+set_once of set name text i port value allowed once value_is =
+    let new : list_any (λ v. v == i) (ports_set set) ≡ false = any_set i set ∙ once in
+    rw (allowed, new) (ap (valued i text) value_is)
+
+-- what is indexed at the place of an input is that input
+pub port_at : (ports : List Port) (name : List ℕ) (i : ℕ) (d : Port) → (found : IsInputOf ports name i) → get_or ports i d ≡ found.port
+port_at ports name i d found = get_or_from_slice_get ports i found.port d found.at
+
+pub all_at : {X : Type 0} (P : X → Type 0) (xs : List X) (i : ℕ) (x : X) → AllByRecursion P xs → slice_get xs i ≡ Some x → P x
 all_at P [] i x all at = absurd (cc)
 all_at P (y ∷ xs) zero x all at = subst P (let same : y ≡ x = cc in same) all.0
 all_at P (y ∷ xs) (suc i) x all at = all_at P xs i x all.1 at
 
--- an input has its initial value's width
-pub width_at : (vars : List Var) (name : List ℕ) (i : ℕ) (d : Var) → HaveInitialValues vars → (found : IsInputOf vars name i) → (get_or vars i d).init.width ≡ found.var.width
-width_at vars name i d has found =
-    ap (λ (v : Var). v.init.width) (get_or_from_slice_get vars i found.var d found.at) ∙ all_at (λ v. v.init.width ≡ v.width) vars i found.var has found.at
+pub setting_gives : (ports : List Port) (of : StepKind) (set word name text : List ℕ) (i : ℕ) (port : Port) (r : Result Assigned Fault) → Some (name, text) ≡ named_part (parts_of word) → (found : IsInputOf ports name i) → port ≡ found.port → r ≡ set_input of set name text (Some (i, port)) → r ≡ setting_of ports of set word
+setting_gives ports of set word name text i port r parts found port_is gives =
+    gives ∙ ap (λ (p : Port). set_input of set name text (Some (i, p))) port_is ∙ sym (ap (set_input of set name text) found.found)
+    ∙ ap (setting_of_parts ports of set word) parts
 
-pub set_twice : (vars : List Var) (set : List Setting) (word name text : List ℕ) (i : ℕ) → Some (name, text) ≡ named_part (parts_of word) → IsInputOf vars name i → list_any (λ s. s.var == i) set ≡ true → Err (record { reason = SetTwice; word = name }) ≡ setting_of vars (inputs_set set) word
-set_twice vars set word name text i parts found twice =
-    let again : list_any (λ v. v == i) (inputs_set set) ≡ true = any_set i set ∙ twice in
-    let judged : Result Assigned Fault = valued i text (word_in found.var.width text) in
-    sym (ap (setting_of_parts vars (inputs_set set) word) (sym parts)
-    ∙ ap (set_input (inputs_set set) name text) found.found
-    ∙ ap (λ b. if b then Err (record { reason = SetTwice; word = name }) else judged) again)
-
-pub set_once : (vars : List Var) (set : List Setting) (word name text : List ℕ) (i width : ℕ) (value : Option ℕ) → Some (name, text) ≡ named_part (parts_of word) → (found : IsInputOf vars name i) → list_any (λ s. s.var == i) set ≡ false → width ≡ found.var.width → value ≡ word_in width text → valued i text value ≡ setting_of vars (inputs_set set) word
-set_once vars set word name text i width value parts found once width_is value_is =
-    let new : list_any (λ v. v == i) (inputs_set set) ≡ false = any_set i set ∙ once in
-    let twice : Result Assigned Fault = Err (record { reason = SetTwice; word = name }) in
-    sym (ap (setting_of_parts vars (inputs_set set) word) (sym parts)
-    ∙ ap (set_input (inputs_set set) name text) found.found
-    ∙ ap (λ b. if b then twice else valued i text (word_in found.var.width text)) new
-    ∙ ap (λ (w : ℕ). valued i text (word_in w text)) (sym width_is)
-    ∙ ap (valued i text) (sym value_is))
-
-pub settable_at : (vars : List Var) (name : List ℕ) (i : ℕ) (d : Var) (value : Bits) → HaveInitialValues vars → IsInputOf vars name i → i < length vars → value.width ≡ (get_or vars i d).init.width → IsSettable vars (record { var = i; value = value })
-settable_at vars name i d value has found there width =
-    record { there = there; var = found.var; at = found.at; role = found.role; width = width ∙ width_at vars name i d has found }
+pub setting_fits : (ports : List Port) (of : StepKind) (name : List ℕ) (i : ℕ) (port : Port) (r : Result Setting BadWord) → (found : IsInputOf ports name i) → i < length ports → port ≡ found.port → IfOk r (λ s. s.port ≡ i) → IfOk r (λ s. s.value.width ≡ port.width) → IfOk r (λ s. class_fault of port.class port.width ≡ None) → IfOk r (IsFitting ports of)
+setting_fits ports of name i port (Ok s) found there port_is place width allowed =
+    let same : s.value.width ≡ found.port.width = width ∙ ap (λ (p : Port). p.width) port_is in
+    let fits : s.value.word < 2 ^ s.value.width = s.value.fits in
+    record {
+      there = omega arith;
+      settable = record {
+        port = found.port;
+        at = rw place found.at;
+        input = found.input;
+        class_fits = rw port_is at allowed;
+        word_fits = subst (λ (w : ℕ). s.value.word < 2 ^ w) same fits;
+      };
+      width = same;
+    }
+setting_fits ports of name i port (Err bad) found there port_is place width allowed = tt

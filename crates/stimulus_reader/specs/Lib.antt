@@ -1,2 +1,6 @@
 pub mod Stimulus
 pub mod Reading
+pub mod LineSource
+pub mod LineReading
+pub mod Judging
+pub mod Fields

@@ -1,11 +1,12 @@
 //! The lines of a stimulus, read from a source.
 
-ghost use Rattle.std.specs.Prelude.{◌≡◌, ◌+◌, ◌<◌, ◌≤◌, length, IfOk, IfErr, OnErr};
-ghost use Rattle.stimulus_reader.specs.StimulusSource.{LeftSo, IsNextByte, IsTurn, IsFound, FoundWithin, IsCause};
+ghost use Rattle.std.specs.Prelude.{◌≡◌, ◌+◌, ◌<◌, ◌≤◌, ◌++◌, length, IfOk, OnErr};
+ghost use Rattle.std.specs.Vec.{vec_capacity};
+ghost use Rattle.io_edge.specs.Fault.{Rose};
+ghost use Rattle.stimulus_reader.specs.LineSource.{LeftSo, IsNextByte, IsOpenLine, IsTurn, IsFound, FoundWithin};
 ghost use Rattle.stimulus_reader.specs.declared.found.TheConstants.{LINE_LIMIT, FILE_LIMIT};
 
 use crate::reason::Reason;
-use crate::stop::Stop;
 use io_edge::{Failed, Source};
 
 /// The most bytes of a line before its LF.
@@ -33,9 +34,10 @@ enum Turn {
 }
 
 // The next byte of a source, unless it is at its end.
-fn next_byte<S: Source>(source: &mut S) -> Result<Option<u8>, Stop>
+fn next_byte<S: Source>(source: &mut S) -> Result<Option<u8>, Failed>
     ensures next { IfOk result (λ byte. LeftSo (S.left source.old) (S.left source.new) (IsNextByte byte)) }
-    ensures cause { IfErr result (λ stop. IsCause stop (S.faults source.old) (S.faults source.new)) }
+    ensures kept { OnErr result (S.left source.new ≡ S.left source.old) }
+    ensures cause { OnErr result (Rose (S.faults source.old) (S.faults source.new)) }
     ensures ground { S.same_ground source.old source.new }
     ensures later { S.faults source.old ≤ S.faults source.new }
 {
@@ -43,7 +45,7 @@ fn next_byte<S: Source>(source: &mut S) -> Result<Option<u8>, Stop>
     match source.read(&mut byte) {
         Ok(0) => Ok(None),
         Ok(_) => Ok(Some(byte[0])),
-        Err(Failed) => Err(Stop::ReadFault),
+        Err(Failed) => Err(Failed),
     }
 }
 
@@ -70,20 +72,25 @@ fn next_turn(at: u64, len: usize, byte: Option<u8>) -> Turn
     }
 }
 
-/// Reads the line that begins at this place of the file, without its LF, into `line`. No byte past a limit is
-/// read but the first.
-pub fn take_line<S: Source>(at: u64, line: &mut Vec<u8>, source: &mut S) -> Result<Found, Stop>
-    requires { at ≤ FILE_LIMIT }
-    ensures found { IfOk result (λ found. LeftSo (S.left source.old) (S.left source.new) (IsFound at line.new.items found)) }
+/// Reads on in the line that begins at this place of the file, without its LF, behind the bytes of it that `line` has.
+/// No byte past a limit is read but the first. A read that failed leaves in `line` what was read.
+pub fn take_line<S: Source>(at: u64, line: &mut Vec<u8>, source: &mut S) -> Result<Found, Failed>
+    requires begun { IsOpenLine at line.old.items }
+    requires room { LINE_LIMIT ≤ vec_capacity line.old }
+    ensures found { IfOk result (λ found. LeftSo (S.left source.old) (S.left source.new)
+        (λ bytes rest. IsFound at line.new.items found (line.old.items ++ bytes) rest)) }
     ensures within { IfOk result (FoundWithin at line.new.items) }
-    ensures cause { IfErr result (λ stop. IsCause stop (S.faults source.old) (S.faults source.new)) }
+    ensures kept { OnErr result (LeftSo (S.left source.old) (S.left source.new)
+        (λ bytes rest. line.old.items ++ bytes ≡ line.new.items ++ rest)) }
+    ensures front { IsOpenLine at line.new.items }
+    ensures capacity { vec_capacity line.new ≡ vec_capacity line.old }
+    ensures cause { OnErr result (Rose (S.faults source.old) (S.faults source.new)) }
     ensures ground { S.same_ground source.old source.new }
     ensures later { S.faults source.old ≤ S.faults source.new }
 {
-    line.clear();
     'bytes: loop {
         match next_turn(at, line.len(), next_byte(source)?) {
-            Turn::More(byte) => line.push(byte)?,
+            Turn::More(byte) => line.push_reserved(byte),
             Turn::Done(found) => return Ok(found),
         }
     }

@@ -1,24 +1,25 @@
 //! What a line of a stimulus asks for.
 
-ghost use Rattle.std.specs.Prelude.{◌≡◌, [], length, not, IfOk, IsTrue};
+ghost use Rattle.std.specs.Prelude.{◌≡◌, ◌≤◌, ◌++◌, List, ℕ, [], length, not, IfOk, IsTrue};
 ghost use Rattle.std.specs.List.{AllByRecursion};
-ghost use Rattle.net_ir.specs.Plain.{HaveInitialValues};
-ghost use Rattle.stimulus_reader.specs.Stimulus.{without_cr, words_of, content_of, settings_of, meaning_of_settings, meaning_of_words, is_comment};
-ghost use Rattle.stimulus_reader.specs.StimulusReading.{IsSettable, meaning_seen};
+ghost use Rattle.std.specs.Vec.{vec_capacity};
+ghost use Rattle.bit_ops.specs.Width.{IsWidth};
+ghost use Rattle.stimulus_reader.specs.Stimulus.{without_cr, words_of, content_of, settings_of, meaning_of_settings, meaning_of_words, is_comment, kind_of};
+ghost use Rattle.stimulus_reader.specs.LineReading.{HasFront, IsFitting, NamesPartOf, meaning_seen};
 
 use crate::reason::Reason;
 use crate::setting::{BadWord, Setting, read_setting};
+use crate::step::StepKind;
 use crate::words::next_word;
-use net_ir::Var;
-use std::alloc::AllocError;
+use sv_base::Port;
 
 /// What a line asks for.
 #[derive(Clone, Copy, Debug, PartialEq, Eq)]
 pub enum Meaning<'a> {
     /// Nothing: the line has no words, or is a comment.
     Skipped,
-    /// A step, whose settings stand beside.
-    Stepped,
+    /// A step of this kind, whose settings stand beside.
+    Stepped(StepKind),
     /// Nothing that is known.
     Refused(BadWord<'a>),
 }
@@ -40,31 +41,42 @@ fn without_cr(text: &[u8]) -> &[u8]
 
 // What a line says: a CR right before its LF is left out.
 fn content(line: &[u8], ended: bool) -> &[u8]
-    ensures { result.now ≡ content_of (record { text = line.now; ended = ended }) }
+    ensures said { result.now ≡ content_of (record { text = line.now; ended = ended }) }
+    ensures front { HasFront line.now result.now }
 {
     if ended { without_cr(line) } else { line }
 }
 
 // Reads what the words of a text set, from left to right, up to the first that is wrong.
 fn read_settings<'a>(
-    vars: &[Var],
+    ports: &[Port],
+    kind: StepKind,
     text: &'a [u8],
     settings: &mut Vec<Setting>,
-) -> Result<Meaning<'a>, AllocError>
-    requires { HaveInitialValues vars.now }
-    ensures gives { IfOk result (λ meaning. meaning_seen settings.new.items meaning ≡ meaning_of_settings (settings_of vars.now [] (words_of text.now))) }
-    ensures settable { AllByRecursion (IsSettable vars.now) settings.new.items }
+) -> Meaning<'a>
+    requires widths { AllByRecursion (λ p. IsWidth p.width) ports.now }
+    requires room { length ports.now ≤ vec_capacity settings.old }
+    ensures gives { meaning_seen settings.new.items result ≡ meaning_of_settings kind (settings_of ports.now kind [] (words_of text.now)) }
+    ensures fitting { AllByRecursion (IsFitting ports.now kind) settings.new.items }
+    ensures part { NamesPartOf text.now result }
+    ensures capacity { vec_capacity settings.new ≡ vec_capacity settings.old }
 {
     settings.clear();
     let mut left = text;
     while let Some((word, rest)) = next_word(left) {
-        match read_setting(vars, settings, word) {
-            Ok(setting) => settings.push(setting)?,
-            Err(bad) => return Ok(Meaning::Refused(bad)),
+        match read_setting(ports, kind, settings, word) {
+            Ok(setting) => settings.push_reserved(setting),
+            Err(bad) => {
+                return Meaning::Refused(BadWord {
+                    reason: bad.reason,
+                    word: bad.word,
+                    behind: bad.behind + rest.len(),
+                });
+            }
         }
         left = rest;
     }
-    Ok(Meaning::Stepped)
+    Meaning::Stepped(kind)
 }
 
 fn begins_comment(word: &[u8]) -> bool
@@ -76,28 +88,66 @@ fn begins_comment(word: &[u8]) -> bool
     }
 }
 
+// The kind of step that a first word begins.
+fn kind_of(word: &[u8]) -> Option<StepKind>
+    ensures { result ≡ kind_of word.now }
+{
+    if word == b"d".as_slice() {
+        Some(StepKind::Values)
+    } else if word == b"c".as_slice() {
+        Some(StepKind::Clocks)
+    } else {
+        None
+    }
+}
+
+// What the words of a text ask for.
+fn read_words<'a>(ports: &[Port], text: &'a [u8], settings: &mut Vec<Setting>) -> Meaning<'a>
+    requires widths { AllByRecursion (λ p. IsWidth p.width) ports.now }
+    requires room { length ports.now ≤ vec_capacity settings.old }
+    ensures gives { meaning_seen settings.new.items result ≡ meaning_of_words ports.now (words_of text.now) }
+    ensures fitting { (kind : StepKind) → result ≡ Meaning.Stepped kind → AllByRecursion (IsFitting ports.now kind) settings.new.items }
+    ensures part { NamesPartOf text.now result }
+    ensures capacity { vec_capacity settings.new ≡ vec_capacity settings.old }
+{
+    let Some((word, rest)) = next_word(text) else {
+        return Meaning::Skipped;
+    };
+    if begins_comment(word) {
+        return Meaning::Skipped;
+    }
+    match kind_of(word) {
+        Some(kind) => read_settings(ports, kind, rest, settings),
+        None => Meaning::Refused(BadWord {
+            reason: Reason::NoStep,
+            word,
+            behind: rest.len(),
+        }),
+    }
+}
+
 /// What a line asks for. The settings of a step are put into `settings`; else anything may stand there.
 pub fn read_line<'a>(
-    vars: &[Var],
+    ports: &[Port],
     line: &'a [u8],
     ended: bool,
     settings: &mut Vec<Setting>,
-) -> Result<Meaning<'a>, AllocError>
-    requires { HaveInitialValues vars.now }
-    ensures gives { IfOk result (λ meaning. meaning_seen settings.new.items meaning ≡ meaning_of_words vars.now (words_of (content_of (record { text = line.now; ended = ended })))) }
-    ensures settable { IfOk result (λ meaning. meaning ≡ Meaning.Stepped → AllByRecursion (IsSettable vars.now) settings.new.items) }
+) -> Meaning<'a>
+    requires widths { AllByRecursion (λ p. IsWidth p.width) ports.now }
+    requires room { length ports.now ≤ vec_capacity settings.old }
+    ensures gives { meaning_seen settings.new.items result ≡ meaning_of_words ports.now (words_of (content_of (record { text = line.now; ended = ended }))) }
+    ensures fitting { (kind : StepKind) → result ≡ Meaning.Stepped kind → AllByRecursion (IsFitting ports.now kind) settings.new.items }
+    ensures part { NamesPartOf line.now result }
+    ensures capacity { vec_capacity settings.new ≡ vec_capacity settings.old }
 {
-    let Some((word, rest)) = next_word(content(line, ended)) else {
-        return Ok(Meaning::Skipped);
-    };
-    if begins_comment(word) {
-        return Ok(Meaning::Skipped);
+    let said = content(line, ended);
+    match read_words(ports, said, settings) {
+        Meaning::Skipped => Meaning::Skipped,
+        Meaning::Stepped(kind) => Meaning::Stepped(kind),
+        Meaning::Refused(bad) => Meaning::Refused(BadWord {
+            reason: bad.reason,
+            word: bad.word,
+            behind: bad.behind + (line.len() - said.len()),
+        }),
     }
-    if word != b"d".as_slice() {
-        return Ok(Meaning::Refused(BadWord {
-            reason: Reason::NoStep,
-            word,
-        }));
-    }
-    read_settings(vars, rest, settings)
 }

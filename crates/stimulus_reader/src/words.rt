@@ -3,6 +3,7 @@
 ghost use Rattle.std.specs.Prelude.{◌≡◌, ◌<◌, [], ◌∷◌, length, not, MatchOption, IfSome};
 ghost use Rattle.std.specs.List.{position};
 ghost use Rattle.stimulus_reader.specs.Stimulus.{separates, words_of};
+ghost use Rattle.stimulus_reader.specs.LineReading.{HasPart};
 
 fn is_blank(byte: u8) -> bool
     ensures { result ≡ separates byte }
@@ -28,6 +29,7 @@ fn word_end(text: &[u8]) -> Option<usize>
 pub fn next_word(text: &[u8]) -> Option<(&[u8], &[u8])>
     ensures words { MatchOption result (words_of text.now ≡ [])
         (λ parts. words_of text.now ≡ parts.0.now ∷ words_of parts.1.now) }
+    ensures part { IfSome result (λ parts. HasPart text.now parts.0.now parts.1.now) }
     ensures shorter { IfSome result (λ parts. length parts.1.now < length text.now) }
 {
     let start = word_start(text)?;

@@ -1,9 +1,7 @@
 -- What is read from a source of a stimulus.
-use Rattle.std.specs.Prelude.{◌≡◌, ℕ, ◌+◌, ◌<◌, ◌≤◌, true, false, ◌==◌, List, [], ◌∷◌, ⊤, Option, None, Some}
-use Rattle.io_edge.specs.Fault.{Rose}
+use Rattle.std.specs.Prelude.{◌≡◌, ℕ, ◌+◌, ◌<◌, ◌≤◌, true, false, ◌==◌, List, [], ◌∷◌, length, ⊤, Option, None, Some}
+use Rattle.std.specs.List.{AllByRecursion}
 use Rattle.stimulus_reader.specs.declared.reason.Reason.TheVariants.{LineTooLong, FileTooLong}
-use Rattle.stimulus_reader.specs.declared.stop.Stop.{Stop}
-use Rattle.stimulus_reader.specs.declared.stop.Stop.TheVariants.{ReadFault, WriteFault, NoMemory}
 use Rattle.stimulus_reader.specs.declared.found.Found.{Found}
 use Rattle.stimulus_reader.specs.declared.found.Found.TheVariants.{End, Line, Long}
 use Rattle.stimulus_reader.specs.declared.found.Turn.{Turn}
@@ -17,16 +15,20 @@ LeftSo None after P = after ≡ None
 LeftSo (Some bytes) None P = ⊥
 LeftSo (Some bytes) (Some rest) P = P bytes rest
 
--- only a read that failed is told as a fault
-abbrev pub IsCause : Stop → ℕ → ℕ → Type 0
-IsCause ReadFault before now = Rose before now
-IsCause WriteFault before now = ⊥
-IsCause NoMemory before now = ⊤
-
 -- this byte is the first of those left, or none is left
 abbrev pub IsNextByte : Option ℕ → List ℕ → List ℕ → Type 0
 IsNextByte None bytes rest = (bytes ≡ []) × (rest ≡ [])
 IsNextByte (Some byte) bytes rest = bytes ≡ byte ∷ rest
+
+-- no byte is an LF
+abbrev pub HasNoLf : List ℕ → Type 0
+HasNoLf bytes = AllByRecursion (λ b. (b == 10) ≡ false) bytes
+
+-- these bytes are the front of a line that begins at this place, and pass no limit
+pub record IsOpenLine (at : ℕ) (bytes : List ℕ) : Type 0 where
+  pub no_lf : HasNoLf bytes
+  pub in_line : length bytes ≤ line_limit
+  pub in_file : at + length bytes ≤ file_limit
 
 -- what the next byte makes of a line of n bytes that begins at this place, none of which passes a limit
 abbrev pub IsTurn : ℕ → ℕ → Option ℕ → Turn → Type 0

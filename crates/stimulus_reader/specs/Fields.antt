@@ -1,0 +1,41 @@
+-- The fields of a reader, and what is true of them.
+use Rattle.std.specs.Prelude.{◌≡◌, ℕ, ◌+◌, ◌≤◌, List, [], length, map, Option, None, Some}
+use Rattle.std.specs.List.{AllByRecursion}
+use Rattle.std.specs.Vec.{vec_capacity}
+use Rattle.bit_ops.specs.Width.{IsWidth}
+use Rattle.sv_base.specs.declared.face.Class.TheVariants as class
+use Rattle.stimulus_reader.specs.Stimulus.{BadLine, line_limit, file_limit}
+use Rattle.stimulus_reader.specs.Reading.{Reading, is_value, is_clock, words_of_class, level_word}
+use Rattle.stimulus_reader.specs.LineSource.{IsOpenLine}
+use Rattle.stimulus_reader.specs.declared.reason.Reason.{Reason}
+use Rattle.stimulus_reader.specs.declared.step.StepReader.TheInside.{Inside}
+
+-- the buffer has the line that is read, before a line was refused
+abbrev pub kept_of : Option Reason → List ℕ → List ℕ
+kept_of None line = line
+kept_of (Some reason) line = []
+
+-- and after that it has the bad word, and the line is the last
+abbrev pub bad_of : Option Reason → ℕ → List ℕ → Option BadLine
+bad_of None last word = None
+bad_of (Some reason) last word = Some (record { line = last; reason = reason; word = word })
+
+-- the reading that the fields have
+abbrev pub reading_of : Inside → Reading
+reading_of a = record { ports = a.ports.items; number = a.number; at = a.at; kept = kept_of a.bad a.line.items; last = a.last; values = map (λ v. v.word) a.values.items; bad = bad_of a.bad a.last a.line.items }
+
+-- the lists that are lent are those of the values, and there is room for what a line may bring
+pub record IsSound (a : Inside) : Type 0 where
+  pub widths : AllByRecursion (λ p. IsWidth p.width) a.ports.items
+  pub clocks : AllByRecursion (λ p. p.class ≡ class.Clock → p.width ≡ 1) a.ports.items
+  pub fitting : map (λ v. v.width) a.values.items ≡ map (λ p. p.width) a.ports.items
+  pub inputs : map (λ v. v.word) a.inputs.items ≡ words_of_class is_value a.ports.items (map (λ v. v.word) a.values.items)
+  pub input_widths : map (λ v. v.width) a.inputs.items ≡ words_of_class is_value a.ports.items (map (λ p. p.width) a.ports.items)
+  pub levels : map level_word a.levels.items ≡ words_of_class is_clock a.ports.items (map (λ v. v.word) a.values.items)
+  pub line_room : line_limit ≤ vec_capacity a.line
+  pub setting_room : length a.ports.items ≤ vec_capacity a.settings
+  pub input_room : length a.ports.items ≤ vec_capacity a.inputs
+  pub level_room : length a.ports.items ≤ vec_capacity a.levels
+  pub open_line : a.bad ≡ None → IsOpenLine a.at a.line.items
+  pub within : a.at ≤ file_limit
+  pub counted : a.number ≤ a.at + 1
