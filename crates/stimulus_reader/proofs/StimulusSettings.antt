@@ -15,7 +15,8 @@ use Rattle.stimulus_reader.specs.declared.reason.Reason.TheVariants.{SetTwice}
 use Rattle.stimulus_reader.specs.declared.setting.Setting.{Setting}
 use Rattle.stimulus_reader.specs.declared.setting.BadWord.{BadWord}
 use Rattle.sv_base.specs.Spelling.{is_name}
-use Rattle.stimulus_reader.specs.Stimulus.{Fault, digit_of, more_digits, number_from, parts_of, before_first_part, named_part, is_input, input_from, setting_of, setting_of_parts, set_input, class_fault, valued, value_in}
+use Rattle.stimulus_reader.specs.Stimulus.{Fault, digit_of, more_digits, number_from, parts_of, before_first_part, named_part, input_from, setting_of, setting_of_parts, set_input, class_fault, valued, value_in}
+use Rattle.sv_base.specs.Classes.{is_input}
 use Rattle.stimulus_reader.specs.LineReading.{IsInputOf, IsFitting, StandsIn, ports_set}
 
 -- ---- numbers

@@ -5,7 +5,8 @@ use Rattle.std.specs.Vec.{vec_capacity}
 use Rattle.bit_ops.specs.Width.{IsWidth}
 use Rattle.sv_base.specs.declared.face.Class.TheVariants as class
 use Rattle.stimulus_reader.specs.Stimulus.{BadLine, line_limit, file_limit}
-use Rattle.stimulus_reader.specs.Reading.{Reading, is_value, is_clock, words_of_class, level_word}
+use Rattle.stimulus_reader.specs.Reading.{Reading, words_of_class}
+use Rattle.sv_base.specs.Classes.{is_value, is_clock, level_word}
 use Rattle.stimulus_reader.specs.LineSource.{IsOpenLine}
 use Rattle.stimulus_reader.specs.declared.reason.Reason.{Reason}
 use Rattle.stimulus_reader.specs.declared.step.StepReader.TheInside.{Inside}

@@ -2,7 +2,8 @@
 use Rattle.std.specs.Prelude.{◌≡◌, ℕ, ◌<◌, List, ◌++◌, length, map, reverse, slice_get, ⊤, true, Some, Result, Ok, Err}
 use Rattle.sv_base.specs.declared.face.Port.{Port}
 use Rattle.sv_base.specs.Steps.{Setting as Assigned}
-use Rattle.stimulus_reader.specs.Stimulus.{Fault, is_input, input_from, step_of, Meaning as Asked}
+use Rattle.stimulus_reader.specs.Stimulus.{Fault, input_from, step_of, Meaning as Asked}
+use Rattle.sv_base.specs.Classes.{is_input}
 use Rattle.stimulus_reader.specs.Stimulus as asked
 use Rattle.stimulus_reader.specs.Reading.{IsSettable}
 use Rattle.stimulus_reader.specs.declared.step.StepKind.{StepKind}

@@ -2,7 +2,6 @@
 use Rattle.std.specs.Prelude.{◌≡◌, ℕ, ◌<◌, ◌^◌, suc, Bool, true, false, List, [], ◌∷◌, ◌++◌, map, Option, None, Some, Result, Err, IsTrue, slice_get, ⊤, if◌then◌else◌}
 use Rattle.std.specs.List.{AllByRecursion}
 use Rattle.sv_base.specs.declared.face.Class.{Class}
-use Rattle.sv_base.specs.declared.face.Class.TheVariants as class
 use Rattle.sv_base.specs.declared.face.Port.{Port}
 use Rattle.sv_base.specs.Steps.{Setting, set_all}
 use Rattle.stimulus_reader.specs.declared.reason.Reason.{Reason}
@@ -11,7 +10,8 @@ use Rattle.stimulus_reader.specs.declared.step.StepKind.{StepKind}
 use Rattle.stimulus_reader.specs.declared.step.StepFault.{StepFault}
 use Rattle.stimulus_reader.specs.declared.step.StepFault.TheVariants.{Bad, ReadFault}
 use Rattle.io_edge.specs.Fault.{Rose}
-use Rattle.stimulus_reader.specs.Stimulus.{is_input, class_fault, BadLine, Script, ended, stopped, with_step, lines_of, script_from, step_of}
+use Rattle.stimulus_reader.specs.Stimulus.{class_fault, BadLine, Script, ended, stopped, with_step, lines_of, script_from, step_of}
+use Rattle.sv_base.specs.Classes.{is_input}
 
 -- how far a reader has come
 pub record Reading : Type 0 where
@@ -96,27 +96,10 @@ word_of None = []
 word_of (Some bad) = bad.word
 
 -- the words of the ports of some classes, in port order
-abbrev pub is_value : Class → Bool
-is_value class.Value = true
-is_value class.Clock = false
-is_value class.Idle = false
-is_value class.Output = false
-
-abbrev pub is_clock : Class → Bool
-is_clock class.Value = false
-is_clock class.Clock = true
-is_clock class.Idle = false
-is_clock class.Output = false
-
 abbrev pub words_of_class : (Class → Bool) → List Port → List ℕ → List ℕ
 words_of_class chosen [] words = []
 words_of_class chosen (p ∷ ports) [] = []
 words_of_class chosen (p ∷ ports) (word ∷ words) = if chosen p.class then word ∷ words_of_class chosen ports words else words_of_class chosen ports words
-
--- a level as a word of one bit
-abbrev pub level_word : Bool → ℕ
-level_word false = 0
-level_word true = 1
 
 -- ---- clauses of the reader's calls
 

@@ -5,6 +5,7 @@ use Rattle.std.specs.Str.{bytes_eq}
 use Rattle.sv_base.specs.declared.face.Class.{Class}
 use Rattle.sv_base.specs.declared.face.Class.TheVariants as class
 use Rattle.sv_base.specs.declared.face.Port.{Port}
+use Rattle.sv_base.specs.Classes.{is_input}
 use Rattle.sv_base.specs.Spelling.{is_name}
 use Rattle.sv_base.specs.Steps.{Setting, Step, Values, Clocks}
 use Rattle.stimulus_reader.specs.declared.reason.Reason.{Reason}
@@ -79,12 +80,6 @@ named_part None = None
 named_part (Some parts) = if is_name parts.0 && nat_lt 0 (length parts.1) then Some parts else None
 
 -- the input of a name, by its place among the ports from n on, where there is one
-abbrev pub is_input : Class → Bool
-is_input class.Value = true
-is_input class.Clock = true
-is_input class.Idle = true
-is_input class.Output = false
-
 abbrev pub input_from : ℕ → List Port → List ℕ → Option (ℕ × Port)
 input_from n [] name = None
 input_from n (p ∷ ports) name = if bytes_eq p.name name && is_input p.class then Some (n, p) else input_from (n + 1) ports name

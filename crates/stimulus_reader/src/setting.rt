@@ -6,7 +6,8 @@ ghost use Rattle.std.specs.Option.{option_map};
 ghost use Rattle.std.specs.Str.{bytes_eq};
 ghost use Rattle.bit_ops.specs.Width.{IsWidth};
 ghost use Rattle.sv_base.specs.Spelling.{is_name};
-ghost use Rattle.stimulus_reader.specs.Stimulus.{digit_of, number_from, word_in, level_in, value_in, parts_of, named_part, is_input, input_from, class_fault, set_input, setting_of};
+ghost use Rattle.stimulus_reader.specs.Stimulus.{digit_of, number_from, word_in, level_in, value_in, parts_of, named_part, input_from, class_fault, set_input, setting_of};
+ghost use Rattle.sv_base.specs.Classes.{is_input};
 ghost use Rattle.stimulus_reader.specs.LineReading.{IsInputOf, IsFitting, StandsIn, ports_set, setting_result};
 
 use crate::reason::Reason;

@@ -6,7 +6,8 @@ ghost use Rattle.std.specs.Vec.{vec_capacity};
 ghost use Rattle.bit_ops.specs.Width.{IsWidth};
 ghost use Rattle.sv_base.specs.Steps.{set_all};
 ghost use Rattle.stimulus_reader.specs.LineReading.{Fits, settings_seen};
-ghost use Rattle.stimulus_reader.specs.Reading.{is_value, is_clock, words_of_class, level_word};
+ghost use Rattle.stimulus_reader.specs.Reading.{words_of_class};
+ghost use Rattle.sv_base.specs.Classes.{is_value, is_clock, level_word};
 
 use crate::found::{Found, LINE_LIMIT, take_line};
 use crate::line::{Meaning, read_line};
@@ -85,7 +86,8 @@ impl StepReader {
     ghost use Rattle.bit_ops.specs.Width.{IsWidth};
     ghost use Rattle.sv_base.specs.declared.face.Class.TheVariants.{Clock};
     ghost use Rattle.stimulus_reader.specs.Stimulus.{span, file_limit};
-    ghost use Rattle.stimulus_reader.specs.Reading.{at_front, IsStep, IsEnd, Tells, IsTold, IsToldAgain, IsStepCause, IsInputAt, word_of, is_value, is_clock, words_of_class, level_word};
+    ghost use Rattle.stimulus_reader.specs.Reading.{at_front, IsStep, IsEnd, Tells, IsTold, IsToldAgain, IsStepCause, IsInputAt, word_of, words_of_class};
+    ghost use Rattle.sv_base.specs.Classes.{is_value, is_clock, level_word};
     ghost use Rattle.stimulus_reader.specs.LineSource.{LeftSo};
     ghost use Rattle.stimulus_reader.specs.Judging.{line_in, Judges, GivesLine};
 

@@ -2,7 +2,7 @@ use Rattle.std.proofs.Common.{◌≡◌, ◌<◌, ◌++◌, ◌∷◌, [], lengt
 use Rattle.std.proofs.lemmas.List.{length-map}
 use Rattle.bit_ops.specs.declared.value.Bits.{Bits}
 use Rattle.sv_base.specs.declared.face.Port.{Port}
-use Rattle.stimulus_reader.specs.Reading.{is_value}
+use Rattle.sv_base.specs.Classes.{is_value}
 use Rattle.stimulus_reader.proofs.StimulusValues.{gathered_in, gathered_out, mapped_at, same_length}
 use Rattle.stimulus_reader.proofs.step.gather_inputs.Goals.{then-is_value, else-is_value}
 use Rattle.stimulus_reader.proofs.step.gather_inputs.Goals as goal

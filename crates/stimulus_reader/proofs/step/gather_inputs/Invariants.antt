@@ -1,6 +1,7 @@
 use Rattle.std.proofs.Common.{◌≡◌, ◌≤◌, ◌++◌, map, drop, length}
 use Rattle.std.specs.Vec.{vec_capacity}
-use Rattle.stimulus_reader.specs.Reading.{is_value, words_of_class}
+use Rattle.stimulus_reader.specs.Reading.{words_of_class}
+use Rattle.sv_base.specs.Classes.{is_value}
 use Rattle.stimulus_reader.proofs.step.gather_inputs.Given as goal
 
 abbrev pub invariant-loop-i : goal.invariant-loop-i

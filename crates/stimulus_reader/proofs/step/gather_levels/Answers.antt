@@ -1,7 +1,7 @@
 use Rattle.std.proofs.Common.{◌≡◌, ◌<◌, ◌==◌, ◌++◌, ◌∷◌, [], Bool, length, sym, ◌∙◌, arith, map, length-append}
 use Rattle.std.proofs.lemmas.List.{length-map}
 use Rattle.bit_ops.specs.declared.value.Bits.{Bits}
-use Rattle.stimulus_reader.specs.Reading.{is_clock, level_word}
+use Rattle.sv_base.specs.Classes.{is_clock, level_word}
 use Rattle.stimulus_reader.proofs.StimulusValues.{gathered_in, gathered_out, mapped_at, same_length, level_is}
 use Rattle.stimulus_reader.proofs.step.gather_levels.Goals.{then-is_clock, else-is_clock}
 use Rattle.stimulus_reader.proofs.step.gather_levels.Goals as goal

@@ -1,6 +1,7 @@
 use Rattle.std.proofs.Common.{◌≡◌, ◌≤◌, ◌++◌, map, drop, length}
 use Rattle.std.specs.Vec.{vec_capacity}
-use Rattle.stimulus_reader.specs.Reading.{is_clock, words_of_class, level_word}
+use Rattle.stimulus_reader.specs.Reading.{words_of_class}
+use Rattle.sv_base.specs.Classes.{is_clock, level_word}
 use Rattle.stimulus_reader.proofs.step.gather_levels.Given as goal
 
 abbrev pub invariant-loop-i : goal.invariant-loop-i
