@@ -1,15 +1,13 @@
 -- What playing a stimulus on a bench writes, and where it leaves the bench.
-use Rattle.std.specs.Prelude.{◌≡◌, ℕ, ◌<◌, ◌≤◌, List, [], ◌∷◌, ◌++◌, length, take, Option, None, Some, Result, Ok, Err, ⊤}
+use Rattle.std.specs.Prelude.{◌≡◌, ℕ, ◌<◌, ◌≤◌, List, [], ◌∷◌, ◌++◌, length, take, Option, Some, Result, Ok, Err, ⊤}
 use Rattle.io_edge.specs.Fault.{Rose}
 use Rattle.io_edge.specs.Told.{Added, AddedFront}
 use Rattle.sv_base.specs.Steps.{Step}
-use Rattle.sv_base.specs.TraceText.{header}
 use Rattle.net_ir.specs.declared.design.Spec.{Spec}
-use Rattle.net_ir.specs.Face.{ports_of}
 use Rattle.net_ir.specs.Run.{State, start}
 use Rattle.net_ir.specs.Stepping.{Follows}
 use Rattle.net_ir.specs.Idle.{DifferInIdle}
-use Rattle.net_ir.specs.Trace.{Shows, GoesOn, IsTrace}
+use Rattle.net_ir.specs.Trace.{IsTrace}
 use Rattle.stimulus_reader.specs.declared.reason.Reason.{Reason}
 use Rattle.stimulus_reader.specs.Stimulus.{BadLine, Script}
 use Rattle.session.specs.declared.fault.PlayFault.{PlayFault}
@@ -62,6 +60,13 @@ pub record StandsBehind (spec : Spec) (script : Script) (state : State) (before 
 -- a bad line with this word
 abbrev pub bad_line : ℕ → Reason → List ℕ → BadLine
 bad_line line reason word = record { line = line; reason = reason; word = word }
+
+-- a fault refuses the line of this number, for this reason and with this word
+abbrev pub IsRefusedAs : PlayFault → ℕ → Reason → List ℕ → Type 0
+IsRefusedAs (Stimulus line reason word) at why named = (line ≡ at) × (reason ≡ why) × (word.items ≡ named)
+IsRefusedAs ReadFault at why named = ⊥
+IsRefusedAs WriteFault at why named = ⊥
+IsRefusedAs NoMemory at why named = ⊥
 
 -- what a fault says of the bytes that were added
 abbrev pub LeavesTrace : Spec → Script → Option (List ℕ) → Option (List ℕ) → PlayFault → Type 0

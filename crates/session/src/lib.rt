@@ -2,7 +2,11 @@
 #![tactic(auto)]
 
 pub mod fault;
+mod memory;
 pub mod playing;
+mod refusing;
+mod showing;
+mod stepping;
 
 pub use fault::PlayFault;
 pub use playing::play;

@@ -10,9 +10,15 @@ ghost use Rattle.stimulus_reader.specs.Stimulus.{script_of};
 ghost use Rattle.session.specs.Playing.{IsPlayed, LeavesTrace, StandsBehind, IsPlayCause, IsUntouched};
 
 use crate::fault::PlayFault;
+use crate::memory::{Memory, take_memory};
+use crate::refusing::{refuse, too_many};
+use crate::showing::{begin, write_line};
+use crate::stepping::make_step;
 use io_edge::{Sink, Source};
 use model_stage::Bench;
+use net_ir::law;
 use std::alloc::Global;
+use stimulus_reader::StepFault;
 use sv_base::Face;
 
 /// Plays a stimulus on a bench that is at its start: writes the header of the trace and the line of step 0, then makes
@@ -50,5 +56,41 @@ pub fn play<B: Bench, S: Source, K: Sink>(
     ensures source_later { S.faults source.old ≤ S.faults source.new }
     ensures out_later { K.faults out.old ≤ K.faults out.new }
 {
-    Err(PlayFault::NoMemory)
+    law::one_trace();
+    law::one_next();
+    let Memory {
+        mut reader,
+        header,
+        mut line,
+        mut values,
+    } = match take_memory(alloc, face) {
+        Ok(memory) => memory,
+        Err(_) => return Err(PlayFault::NoMemory),
+    };
+    let ports = face.ports.as_slice();
+    match begin(&header, bench, &reader, ports, &mut values, &mut line, out) {
+        Ok(()) => {}
+        Err(_) => return Err(PlayFault::WriteFault),
+    }
+    let mut number = 0;
+    'steps: loop {
+        match reader.next_step(source) {
+            Ok(None) => return Ok(number),
+            Ok(Some(kind)) => {
+                if number == max_steps {
+                    return Err(too_many(alloc, reader.line_number()));
+                }
+                make_step(kind, &reader, bench);
+                number += 1;
+                match write_line(number, bench, &reader, ports, &mut values, &mut line, out) {
+                    Ok(()) => {}
+                    Err(_) => return Err(PlayFault::WriteFault),
+                }
+            }
+            Err(StepFault::Bad { line, reason }) => {
+                return Err(refuse(alloc, reader, line, reason, number == max_steps));
+            }
+            Err(StepFault::ReadFault) => return Err(PlayFault::ReadFault),
+        }
+    }
 }

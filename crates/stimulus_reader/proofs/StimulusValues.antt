@@ -43,6 +43,17 @@ module _ {X : Type 0} (f : X → ℕ) (chosen : Class → Bool) (ports : List Po
       words_here chosen ports words i d 0 inside there ∙ ap (λ b. if b then get_or words i 0 ∷ rest else rest) is in
       rw add-one (ap (λ (ws : List ℕ). map f items ++ ws) (sym here) ∙ so_far)
 
+-- how many words those of some classes are does not depend on the words
+pub same_count : (chosen : Class → Bool) (ports : List Port) (xs ys : List ℕ) → length xs ≡ length ys → length (words_of_class chosen ports xs) ≡ length (words_of_class chosen ports ys)
+same_count chosen [] xs ys same = refl
+same_count chosen (p ∷ ports) [] [] same = refl
+same_count chosen (p ∷ ports) [] (y ∷ ys) same = absurd (omega arith)
+same_count chosen (p ∷ ports) (x ∷ xs) [] same = absurd (omega arith)
+same_count chosen (p ∷ ports) (x ∷ xs) (y ∷ ys) same = by_test (chosen p.class) (same_count chosen ports xs ys (omega arith)) where
+  by_test : (t : Bool) → length (words_of_class chosen ports xs) ≡ length (words_of_class chosen ports ys) → length (if t then x ∷ words_of_class chosen ports xs else words_of_class chosen ports xs) ≡ length (if t then y ∷ words_of_class chosen ports ys else words_of_class chosen ports ys)
+  by_test true rest = ap suc rest
+  by_test false rest = rest
+
 -- what is read at a place, as a number
 pub mapped_at : {X : Type 0} (f : X → ℕ) (xs : List X) (i : ℕ) (x : X) → i < length xs → x ≡ get_or xs i x → f x ≡ get_or (map f xs) i (f x)
 mapped_at f xs i x inside is = ap f is ∙ sym (get_or-map f xs i x (f x) inside)

@@ -175,7 +175,8 @@ impl StepReader {
 
     /// The levels of the clocks, in port order.
     pub fn levels(&self) -> &[bool]
-        ensures { map level_word result.now ≡ words_of_class is_clock self.now.ports self.now.values }
+        ensures words { map level_word result.now ≡ words_of_class is_clock self.now.ports self.now.values }
+        ensures count { length result.now ≡ length (words_of_class is_clock self.now.ports (map (λ p. p.width) self.now.ports)) }
     {
         self.levels.as_slice()
     }

@@ -1,15 +1,18 @@
 -- The text of a trace, digit by digit and port by port.
-use Rattle.std.proofs.Common.{◌≡◌, ℕ, zero, suc, ◌<◌, ◌≤◌, ◌^◌, ◌+◌, ◌*◌, ◌/◌, ◌%◌, List, [], ◌∷◌, ◌++◌, length, drop, get_or, ◌-◌, bit_and, append_assoc, add-one, refl, sym, ◌∙◌, ap, subst, arith}
-use Rattle.std.proofs.Common.{pow-add}
-use Rattle.std.proofs.lemmas.List.{drop_all, append-nil}
+use Rattle.std.proofs.Common.{◌≡◌, ℕ, zero, suc, ◌<◌, ◌≤◌, ◌^◌, ◌+◌, ◌*◌, ◌/◌, ◌%◌, List, [], ◌∷◌, ◌++◌, length, drop, map, ◌-◌, bit_and, append_assoc, refl, sym, ◌∙◌, ap, arith}
+use Rattle.std.proofs.Common.{pow-add, add-one, get_or, length-append}
+use Rattle.std.proofs.lemmas.List.{at_drop_more, drop_all, append-nil}
+use Rattle.std.proofs.lemmas.List.Sums.{sum_by-cons}
+use Rattle.std.proofs.lemmas.Fmt.{decimal_step, decimal_digit}
+use Rattle.std.specs.Fmt.{decimal}
 use Rattle.std.proofs.lemmas.Nat.{and_mask}
 use native.Mathlib.Nat.{div-div-eq-div-mul, div-one}
 use Rattle.std.specs.List.{flat_map, zip}
-use Rattle.std.specs.Fmt.{decimal}
 use Rattle.bit_ops.specs.declared.value.Bits.{Bits}
-use Rattle.net_ir.specs.declared.design.Var.{Var}
-use Rattle.net_ir.specs.Value.{words, widths, widths_of}
-use Rattle.net_ir.specs.Text.{hex_digit, hex_digits, digits_of_width, cell, line}
+use Rattle.bit_ops.specs.Lists.{words, widths}
+use Rattle.sv_base.specs.declared.face.Port.{Port}
+use Rattle.sv_base.specs.TraceText.{hex_digit, hex_digits, digits_of_width, cell}
+use Rattle.trace_writer.specs.Room.{value_text, values_text, value_room, values_room}
 
 -- the highest of n + 1 digits stands first
 sixteen : (n : ℕ) → 16 * 2 ^ (4 * n) ≡ 2 ^ (4 * suc n)
@@ -23,23 +26,14 @@ hex_head (suc n) word =
     ap (λ xs. xs ++ hex_digit (word % 16) ∷ []) (hex_head n (word / 16))
     ∙ ap (λ w. hex_digit (w % 16) ∷ (hex_digits n (word / 16) ++ hex_digit (word % 16) ∷ [])) (div-div-eq-div-mul word 16 (2 ^ (4 * n)) ∙ ap (λ m. word / m) (sixteen n))
 
--- one port more
-pub cells_more : (ports : List Var) (values : List Bits) (i : ℕ) (value : Bits) → widths values ≡ widths_of ports → i < length values → value ≡ get_or values i value → flat_map cell (drop i (zip ports (words values))) ≡ (32 ∷ hex_digits (digits_of_width value.width) value.word) ++ flat_map cell (drop (suc i) (zip ports (words values)))
-cells_more ports [] i value same within is = absurd (omega arith)
-cells_more [] (v ∷ values) i value same within is = absurd (cc)
-cells_more (p ∷ ports) (v ∷ values) zero value same within is =
-    let width : v.width ≡ p.width = cc in
-    ap (λ w. (32 ∷ hex_digits (digits_of_width w) v.word) ++ flat_map cell (zip ports (words values))) (sym width)
-    ∙ ap (λ (x : Bits). (32 ∷ hex_digits (digits_of_width x.width) x.word) ++ flat_map cell (zip ports (words values))) (sym is)
-cells_more (p ∷ ports) (v ∷ values) (suc i) value same within is =
-    let rest : widths values ≡ widths_of ports = cc in
-    cells_more ports values i value rest (omega arith) is
+-- there are as many digits as are asked for
+length-hex_digits : (n word : ℕ) → length (hex_digits n word) ≡ n
+length-hex_digits zero word = refl
+length-hex_digits (suc n) word =
+    length-append (hex_digits n (word / 16)) (hex_digit (word % 16) ∷ []) ∙ ap (λ k. k + 1) (length-hex_digits n (word / 16)) ∙ add-one n
 
-pub length-cells : (ports : List Var) (values : List Bits) → widths values ≡ widths_of ports → length (zip ports (words values)) ≡ length values
-length-cells [] [] same = refl
-length-cells [] (v ∷ values) same = absurd (cc)
-length-cells (p ∷ ports) [] same = refl
-length-cells (p ∷ ports) (v ∷ values) same = ap suc (length-cells ports values (cc))
+pub length-value_text : (value : Bits) → length (value_text value) ≡ value_room value.width
+length-value_text value = sym (add-one _) ∙ ap (λ k. k + 1) (length-hex_digits (digits_of_width value.width) value.word) ∙ omega arith
 
 -- one digit more: what is written and what is to come are the same text
 pub digit_more : (word place d : ℕ) (text after all : List ℕ) → 0 < place → d ≡ hex_digit (bit_and (word / 2 ^ (4 * (place - 1))) 15) → after ≡ text ++ d ∷ [] → text ++ hex_digits place word ≡ all → after ++ hex_digits (place - 1) word ≡ all
@@ -55,20 +49,42 @@ digit_more word (suc place) d text after all some is wrote so_far =
     ∙ ap (λ xs. text ++ xs) (sym (hex_head place word))
     ∙ so_far
 
--- one port more
-pub port_more : (ports : List Var) (values : List Bits) (i : ℕ) (value : Bits) (text mid after all : List ℕ) → widths values ≡ widths_of ports → i < length values → value ≡ get_or values i value → mid ≡ text ++ 32 ∷ [] → after ≡ mid ++ hex_digits (digits_of_width value.width) value.word → text ++ flat_map cell (drop i (zip ports (words values))) ≡ all → after ++ flat_map cell (drop (i + 1) (zip ports (words values))) ≡ all
-port_more ports values i value text mid after all same within is blank wrote so_far =
-    let more = flat_map cell (drop (suc i) (zip ports (words values))) in
-    let digits = hex_digits (digits_of_width value.width) value.word in
-    ap (λ k. after ++ flat_map cell (drop k (zip ports (words values)))) (add-one i)
-    ∙ ap (λ xs. xs ++ more) (wrote ∙ ap (λ xs. xs ++ digits) blank ∙ append_assoc text (32 ∷ []) digits)
-    ∙ append_assoc text (32 ∷ digits) more
-    ∙ ap (λ xs. text ++ xs) (sym (cells_more ports values i value same within is))
-    ∙ so_far
+-- the values with their widths are what a line says of ports of these widths
+pub values_are_cells : (values : List Bits) (ports : List Port) → widths values ≡ map (λ p. p.width) ports → values_text values ≡ flat_map cell (zip ports (words values))
+values_are_cells [] [] same = refl
+values_are_cells [] (p ∷ ports) same = absurd (cc)
+values_are_cells (v ∷ values) [] same = absurd (cc)
+values_are_cells (v ∷ values) (p ∷ ports) same =
+    let width : v.width ≡ p.width = cc in
+    let rest : widths values ≡ map (λ (q : Port). q.width) ports = cc in
+    ap (λ w. (32 ∷ hex_digits (digits_of_width w) v.word) ++ values_text values) width
+    ∙ ap (λ xs. (32 ∷ hex_digits (digits_of_width p.width) v.word) ++ xs) (values_are_cells values ports rest)
 
--- no port is left
-pub all_ports : (ports : List Var) (values : List Bits) (i : ℕ) (text after : List ℕ) (number : ℕ) → widths values ≡ widths_of ports → length values ≤ i → after ≡ text ++ 10 ∷ [] → text ++ flat_map cell (drop i (zip ports (words values))) ≡ decimal number ++ flat_map cell (zip ports (words values)) → after ≡ line number ports (words values)
-all_ports ports values i text after number same all wrote so_far =
-    let none : drop i (zip ports (words values)) ≡ [] = drop_all i (zip ports (words values)) (subst (λ n. n ≤ i) (sym (length-cells ports values same)) all) in
-    let whole : text ≡ decimal number ++ flat_map cell (zip ports (words values)) = sym (append-nil text) ∙ ap (λ xs. text ++ flat_map cell xs) (sym none) ∙ so_far in
+-- a number of ten or more has a digit more than its tenth
+pub decimal_longer : (n : ℕ) → 10 ≤ n → n < 2 ^ 64 → length (decimal n) ≡ length (decimal (n / 10)) + 1
+decimal_longer n ten below = ap length (decimal_step n ten below) ∙ simp length-append
+
+-- a number below ten has one digit
+pub decimal_one : (n : ℕ) → n < 10 → length (decimal n) ≡ 1
+decimal_one n below = ap length (decimal_digit n below)
+
+-- one value more: its room is taken from what is left
+pub room_more : (values : List Bits) (i : ℕ) (value : Bits) → i < length values → value ≡ get_or values i value → values_room (widths (drop i values)) ≡ value_room value.width + values_room (widths (drop (i + 1) values))
+room_more values i value within is =
+    at_drop_more (λ vs. values_room (widths vs)) values i value within
+    ∙ sum_by-cons value_room (get_or values i value).width (widths (drop (i + 1) values))
+    ∙ ap (λ (v : Bits). value_room v.width + values_room (widths (drop (i + 1) values))) (sym is)
+
+-- one value more: what is written and what is to come are the same text
+pub value_more : (values : List Bits) (i : ℕ) (value : Bits) (text after all : List ℕ) → i < length values → value ≡ get_or values i value → after ≡ text ++ value_text value → text ++ values_text (drop i values) ≡ all → after ++ values_text (drop (i + 1) values) ≡ all
+value_more values i value text after all within is wrote so_far =
+    let more = values_text (drop (i + 1) values) in
+    let here : values_text (drop i values) ≡ value_text value ++ more = at_drop_more values_text values i value within ∙ ap (λ v. value_text v ++ more) (sym is) in
+    ap (λ xs. xs ++ more) wrote ∙ append_assoc text (value_text value) more ∙ ap (λ xs. text ++ xs) (sym here) ∙ so_far
+
+-- no value is left
+pub all_values : (values : List Bits) (i : ℕ) (text front after : List ℕ) → length values ≤ i → after ≡ text ++ 10 ∷ [] → text ++ values_text (drop i values) ≡ front ++ values_text values → after ≡ front ++ values_text values ++ 10 ∷ []
+all_values values i text front after all wrote so_far =
+    let none : drop i values ≡ [] = drop_all i values all in
+    let whole : text ≡ front ++ values_text values = sym (append-nil text) ∙ ap (λ vs. text ++ values_text vs) (sym none) ∙ so_far in
     wrote ∙ ap (λ xs. xs ++ 10 ∷ []) whole

@@ -1,13 +1,15 @@
 //! The text of a trace.
 
-ghost use Rattle.std.specs.Prelude.{◌≡◌, ◌≤◌, ◌++◌, IfOk, OnOk};
+ghost use Rattle.std.specs.Prelude.{◌≡◌, ◌≤◌, ◌<◌, ◌+◌, ◌++◌, List, map, length, vec_len, vec_capacity, IfSome, IfOk, OnOk};
 ghost use Rattle.std.specs.Fmt.{decimal};
-ghost use Rattle.net_ir.specs.Value.{words, widths, widths_of};
-ghost use Rattle.net_ir.specs.Text.{hex_digit, hex_digits, digits_of_width, heading, cell, header, line};
+ghost use Rattle.bit_ops.specs.Lists.{words, widths};
+ghost use Rattle.sv_base.specs.declared.face.Port.{Port};
+ghost use Rattle.sv_base.specs.TraceText.{hex_digit, digits_of_width, heading, header, line};
+ghost use Rattle.trace_writer.specs.Room.{value_text, value_room, line_room};
 
 use bit_ops::Bits;
-use net_ir::Var;
 use std::alloc::{AllocError, Global};
+use sv_base::{Face, Port};
 
 /// Adds a number in decimal digits.
 pub fn push_decimal(alloc: Global, text: &mut Vec<u8>, number: u64) -> Result<(), AllocError>
@@ -15,6 +17,20 @@ pub fn push_decimal(alloc: Global, text: &mut Vec<u8>, number: u64) -> Result<()
 {
     let digits = number.to_string(alloc)?;
     text.extend_from_slice(digits.as_bytes())
+}
+
+/// Adds a number in decimal digits to a vector that has room for them.
+fn push_number(number: u64, into: &mut Vec<u8>)
+    requires { vec_len into.old + length (decimal number) ≤ vec_capacity into.old }
+    ensures text { into.new.items ≡ into.old.items ++ decimal number }
+    ensures room { vec_capacity into.new ≡ vec_capacity into.old }
+{
+    if number < 10 {
+        into.push_reserved(b'0' + number as u8);
+        return;
+    }
+    push_number(number / 10, into);
+    into.push_reserved(b'0' + (number % 10) as u8);
 }
 
 /// A hexadecimal digit in lower case.
@@ -29,19 +45,27 @@ fn digit(value: u8) -> u8
     }
 }
 
-/// Adds a value with all the hexadecimal digits of its width.
-fn push_value(text: &mut Vec<u8>, value: Bits) -> Result<(), AllocError>
-    ensures { OnOk result (text.new.items ≡ text.old.items ++ hex_digits (digits_of_width value.width) value.word) }
+/// How many hexadecimal digits a value of this width has.
+fn digit_count(width: u32) -> u32
+    ensures { result ≡ digits_of_width width }
 {
-    let count = (value.width + 3) / 4;
-    for place in (0..count).rev() {
-        text.push(digit((value.word >> (4 * place) & 15) as u8))?;
+    width.div_ceil(4)
+}
+
+/// Adds a blank, and a value with all the hexadecimal digits of its width.
+fn push_value(value: Bits, into: &mut Vec<u8>)
+    requires { vec_len into.old + value_room value.width ≤ vec_capacity into.old }
+    ensures text { into.new.items ≡ into.old.items ++ value_text value }
+    ensures room { vec_capacity into.new ≡ vec_capacity into.old }
+{
+    into.push_reserved(b' ');
+    for place in (0..digit_count(value.width)).rev() {
+        into.push_reserved(digit((value.word >> (4 * place) & 15) as u8));
     }
-    Ok(())
 }
 
 /// Adds what the header says of a port.
-fn push_heading(alloc: Global, text: &mut Vec<u8>, port: &Var) -> Result<(), AllocError>
+fn push_heading(alloc: Global, text: &mut Vec<u8>, port: &Port) -> Result<(), AllocError>
     ensures { OnOk result (text.new.items ≡ text.old.items ++ heading port.now) }
 {
     text.push(b' ')?;
@@ -51,33 +75,51 @@ fn push_heading(alloc: Global, text: &mut Vec<u8>, port: &Var) -> Result<(), All
 }
 
 /// The header of a trace, with its LF.
-pub fn header(alloc: Global, ports: &[Var]) -> Result<Vec<u8>, AllocError>
-    ensures { IfOk result (λ text. text.items ≡ header ports.now) }
+pub fn header(alloc: Global, face: &Face) -> Result<Vec<u8>, AllocError>
+    ensures { IfOk result (λ text. text.items ≡ header face.now.ports) }
 {
     let mut text = Vec::from_slice(alloc, b"step")?;
-    for port in ports {
+    for port in face.ports.as_slice() {
         push_heading(alloc, &mut text, port)?;
     }
     text.push(b'\n')?;
     Ok(text)
 }
 
-/// The line of a step with this number, with its LF: a value for each port stands in `values`.
-pub fn line(
-    alloc: Global,
-    number: u64,
-    ports: &[Var],
-    values: &[Bits],
-) -> Result<Vec<u8>, AllocError>
-    requires { widths values.now ≡ widths_of ports.now }
-    ensures { IfOk result (λ text. text.items ≡ line number ports.now (words values.now)) }
+/// The most bytes of a line over these ports, where a count of them fits.
+fn room_for(ports: &[Port]) -> Option<usize>
+    ensures { IfSome result (λ room. room ≡ line_room (map (λ p. p.width) ports.now)) }
 {
-    let mut text = Vec::new(alloc);
-    push_decimal(alloc, &mut text, number)?;
-    for value in values {
-        text.push(b' ')?;
-        push_value(&mut text, *value)?;
+    let mut room: usize = 21;
+    for port in ports {
+        room = room.checked_add(1 + digit_count(port.width) as usize)?;
     }
-    text.push(b'\n')?;
-    Ok(text)
+    Some(room)
+}
+
+/// Gives `into` room for every line of a module with this face, whatever the number of its step. What `into` holds
+/// stays as it is.
+pub fn reserve_line(_alloc: Global, face: &Face, into: &mut Vec<u8>) -> Result<(), AllocError>
+    ensures room { OnOk result (line_room (map (λ p. p.width) face.now.ports) ≤ vec_capacity into.new) }
+    ensures text { into.new.items ≡ into.old.items }
+{
+    match room_for(face.ports.as_slice()) {
+        Some(room) => into.reserve(room),
+        None => Err(AllocError),
+    }
+}
+
+/// Puts the line of the step of this number, with its LF, in place of what `into` held: `values` has a value for each
+/// port. Takes no memory.
+pub fn line(number: u64, values: &[Bits], into: &mut Vec<u8>)
+    requires { line_room (widths values.now) ≤ vec_capacity into.old }
+    ensures text { (ports : List Port) → widths values.now ≡ map (λ p. p.width) ports → into.new.items ≡ line number ports (words values.now) }
+    ensures room { vec_capacity into.new ≡ vec_capacity into.old }
+{
+    into.clear();
+    push_number(number, into);
+    for value in values {
+        push_value(*value, into);
+    }
+    into.push_reserved(b'\n');
 }

@@ -1,10 +1,13 @@
-use Rattle.std.proofs.Common.{◌≡◌, ◌++◌, drop}
-use Rattle.std.specs.List.{flat_map, zip}
+use Rattle.std.proofs.Common.{◌≡◌, ◌++◌, ◌+◌, ◌≤◌, drop, vec_len, vec_capacity}
 use Rattle.std.specs.Fmt.{decimal}
-use Rattle.net_ir.specs.Value.{words}
-use Rattle.net_ir.specs.Text.{cell}
-use Rattle.lib_create.proofs.trace.line.Given as goal
+use Rattle.bit_ops.specs.Lists.{widths}
+use Rattle.trace_writer.specs.Room.{values_text, values_room}
+use Rattle.trace_writer.proofs.trace.line.Given as goal
 
--- the ports so far and those to come make all
+-- the values so far and those to come make all, and those to come have room
 abbrev pub invariant-loop-value : goal.invariant-loop-value
-invariant-loop-value l = l.text.items ++ flat_map cell (drop l.value-index (zip l.ports (words l.values))) ≡ decimal l.number ++ flat_map cell (zip l.ports (words l.values))
+invariant-loop-value l = record {
+  text : l.into.items ++ values_text (drop l.value-index l.values) ≡ decimal l.number ++ values_text l.values;
+  left : vec_len l.into + values_room (widths (drop l.value-index l.values)) + 1 ≤ vec_capacity l.into;
+  room : vec_capacity l.into ≡ vec_capacity l.fn.into;
+}

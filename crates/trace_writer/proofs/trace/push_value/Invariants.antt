@@ -1,7 +1,12 @@
-use Rattle.std.proofs.Common.{◌≡◌, ◌++◌}
-use Rattle.net_ir.specs.Text.{hex_digits, digits_of_width}
-use Rattle.lib_create.proofs.trace.push_value.Given as goal
+use Rattle.std.proofs.Common.{◌≡◌, ◌++◌, ◌+◌, ◌≤◌, vec_len, vec_capacity}
+use Rattle.sv_base.specs.TraceText.{hex_digits}
+use Rattle.trace_writer.specs.Room.{value_text}
+use Rattle.trace_writer.proofs.trace.push_value.Given as goal
 
--- the digits so far and those to come make all
+-- the digits so far and those to come make all, and those to come have room
 abbrev pub invariant-loop-place : goal.invariant-loop-place
-invariant-loop-place l = l.text.items ++ hex_digits l.place l.value.word ≡ l.fn.text.items ++ hex_digits (digits_of_width l.value.width) l.value.word
+invariant-loop-place l = record {
+  text : l.into.items ++ hex_digits l.place l.value.word ≡ l.fn.into.items ++ value_text l.value;
+  left : vec_len l.into + l.place ≤ vec_capacity l.into;
+  room : vec_capacity l.into ≡ vec_capacity l.fn.into;
+}

@@ -1,0 +1,6 @@
+mod Ports
+mod Shown
+mod Stepped
+mod Played
+mod Begun
+mod Turns
