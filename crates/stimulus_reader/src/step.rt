@@ -138,11 +138,10 @@ impl StepReader {
             });
         }
         'lines: loop {
-            match self.one_line(source) {
-                Ok(Outcome::Skipped) => {}
-                Ok(Outcome::End) => return Ok(None),
-                Ok(Outcome::Step(kind)) => return Ok(Some(kind)),
-                Err(fault) => return Err(fault),
+            match self.one_line(source)? {
+                Outcome::Skipped => {}
+                Outcome::End => return Ok(None),
+                Outcome::Step(kind) => return Ok(Some(kind)),
             }
         }
     }
