@@ -87,7 +87,7 @@ impl StepReader {
     ghost use Rattle.stimulus_reader.specs.Stimulus.{span, file_limit};
     ghost use Rattle.stimulus_reader.specs.Reading.{at_front, IsStep, IsEnd, Tells, IsTold, IsToldAgain, IsStepCause, IsInputAt, word_of, is_value, is_clock, words_of_class, level_word};
     ghost use Rattle.stimulus_reader.specs.LineSource.{LeftSo};
-    ghost use Rattle.stimulus_reader.specs.Judging.{line_in, Judges, GivesLine};
+    ghost use Rattle.stimulus_reader.specs.Judging.{line_in, Judges, GivesLine, KeepsValues, KeepsUnlessStep};
 
     /// A reader before the first byte of a stimulus for a design with this face. It reserves its memory here.
     pub fn new(alloc: Global, face: &Face) -> Result<StepReader, AllocError>
@@ -127,6 +127,7 @@ impl StepReader {
         ensures told { IfErr result (IsTold self.new) }
         ensures again { IsToldAgain self.old self.new result }
         ensures good { IfOk result (λ next. self.new.bad ≡ None) }
+        ensures values { KeepsUnlessStep self.old self.new result }
         ensures cause { IfErr result (λ fault. IsStepCause fault (S.faults source.old) (S.faults source.new)) }
         ensures ground { S.same_ground source.old source.new }
         ensures later { S.faults source.old ≤ S.faults source.new }
@@ -244,6 +245,7 @@ impl StepReader {
         ensures ports { self.new.ports ≡ self.old.ports }
         ensures told { IfErr result (IsTold self.new) }
         ensures good { IfOk result (λ outcome. self.new.bad ≡ None) }
+        ensures values { KeepsValues self.old self.new result }
         ensures on { IfOk result (λ outcome. outcome ≡ Outcome.Skipped → self.old.at < self.new.at) }
         ensures within { self.new.at ≤ file_limit }
         ensures cause { IfErr result (λ fault. IsStepCause fault (S.faults source.old) (S.faults source.new)) }
