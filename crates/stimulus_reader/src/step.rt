@@ -62,7 +62,7 @@ pub struct StepReader {
     values: Vec<Bits>,
     inputs: Vec<Bits>,
     levels: Vec<bool>,
-    // why that line is refused, after which nothing is read
+    // why the last line is refused, where it is; then nothing more is read
     bad: Option<Reason>,
 }
 
