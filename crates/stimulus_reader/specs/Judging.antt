@@ -1,5 +1,5 @@
 -- What one line makes of a reading.
-use Rattle.std.specs.Prelude.{◌≡◌, ℕ, ◌+◌, Bool, List, [], None, Some, Result, Ok, Err}
+use Rattle.std.specs.Prelude.{◌≡◌, ℕ, ◌+◌, Bool, List, [], ⊤, Option, None, Some, Result, Ok, Err}
 use Rattle.std.specs.List.{AllByRecursion}
 use Rattle.sv_base.specs.Steps.{Setting, set_all}
 use Rattle.stimulus_reader.specs.Stimulus.{Line, Fault, Meaning, Skipped, Stepped, Refused, step_of, words_of, content_of, span, meaning_of_words}
@@ -51,6 +51,7 @@ pub record Refuses (before after : Reading) (over : Bool) (line : ℕ) (reason :
   pub line_is : line ≡ before.number
   pub reason_is : reason ≡ fault.reason
   pub bad : after.bad ≡ Some (record { line = line; reason = reason; word = fault.word })
+  pub values : after.values ≡ before.values
   pub last : after.last ≡ line
 
 -- what the reader makes of the line that it keeps
@@ -75,3 +76,16 @@ GivesLine before after (Ok outcome.End) bytes rest = IsEnd before bytes
 GivesLine before after (Ok (outcome.Step of)) bytes rest = IsStep before after of bytes rest
 GivesLine before after (Err (Bad line reason)) bytes rest = IsBad before after line reason bytes
 GivesLine before after (Err ReadFault) bytes rest = IsInterrupted before after bytes rest
+
+-- only a step changes the values
+abbrev pub KeepsValues : Reading → Reading → Result Outcome StepFault → Type 0
+KeepsValues before after (Ok outcome.Skipped) = after.values ≡ before.values
+KeepsValues before after (Ok outcome.End) = after.values ≡ before.values
+KeepsValues before after (Ok (outcome.Step of)) = ⊤
+KeepsValues before after (Err fault) = after.values ≡ before.values
+
+-- the same of what a call gives
+abbrev pub KeepsUnlessStep : Reading → Reading → Result (Option StepKind) StepFault → Type 0
+KeepsUnlessStep before after (Ok None) = after.values ≡ before.values
+KeepsUnlessStep before after (Ok (Some of)) = ⊤
+KeepsUnlessStep before after (Err fault) = after.values ≡ before.values

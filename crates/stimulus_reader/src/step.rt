@@ -63,7 +63,7 @@ pub struct StepReader {
     values: Vec<Bits>,
     inputs: Vec<Bits>,
     levels: Vec<bool>,
-    // why that line is refused, after which nothing is read
+    // why the last line is refused, where it is; then nothing more is read
     bad: Option<Reason>,
 }
 
@@ -89,7 +89,7 @@ impl StepReader {
     ghost use Rattle.stimulus_reader.specs.Reading.{at_front, IsStep, IsEnd, Tells, IsTold, IsToldAgain, IsStepCause, IsInputAt, word_of, words_of_class};
     ghost use Rattle.sv_base.specs.Classes.{is_value, is_clock, level_word};
     ghost use Rattle.stimulus_reader.specs.LineSource.{LeftSo};
-    ghost use Rattle.stimulus_reader.specs.Judging.{line_in, Judges, GivesLine};
+    ghost use Rattle.stimulus_reader.specs.Judging.{line_in, Judges, GivesLine, KeepsValues, KeepsUnlessStep};
 
     /// A reader before the first byte of a stimulus for a design with this face. It reserves its memory here.
     pub fn new(alloc: Global, face: &Face) -> Result<StepReader, AllocError>
@@ -129,6 +129,7 @@ impl StepReader {
         ensures told { IfErr result (IsTold self.new) }
         ensures again { IsToldAgain self.old self.new result }
         ensures good { IfOk result (λ next. self.new.bad ≡ None) }
+        ensures values { KeepsUnlessStep self.old self.new result }
         ensures cause { IfErr result (λ fault. IsStepCause fault (S.faults source.old) (S.faults source.new)) }
         ensures ground { S.same_ground source.old source.new }
         ensures later { S.faults source.old ≤ S.faults source.new }
@@ -140,11 +141,10 @@ impl StepReader {
             });
         }
         'lines: loop {
-            match self.one_line(source) {
-                Ok(Outcome::Skipped) => {}
-                Ok(Outcome::End) => return Ok(None),
-                Ok(Outcome::Step(kind)) => return Ok(Some(kind)),
-                Err(fault) => return Err(fault),
+            match self.one_line(source)? {
+                Outcome::Skipped => {}
+                Outcome::End => return Ok(None),
+                Outcome::Step(kind) => return Ok(Some(kind)),
             }
         }
     }
@@ -248,6 +248,7 @@ impl StepReader {
         ensures ports { self.new.ports ≡ self.old.ports }
         ensures told { IfErr result (IsTold self.new) }
         ensures good { IfOk result (λ outcome. self.new.bad ≡ None) }
+        ensures values { KeepsValues self.old self.new result }
         ensures on { IfOk result (λ outcome. outcome ≡ Outcome.Skipped → self.old.at < self.new.at) }
         ensures within { self.new.at ≤ file_limit }
         ensures cause { IfErr result (λ fault. IsStepCause fault (S.faults source.old) (S.faults source.new)) }

@@ -20,6 +20,7 @@ returns-in-Refused-clause-judges c =
       line_is = ap (λ (r : Reading). r.number) c.self.view_is;
       reason_is = refl;
       bad = ap (λ (word : List ℕ). Some (record { line = c.self.inside.number; reason = bad.reason; word = word })) (c.keep_word.ensures.word ∙ word_kept line bad.word.now bad.behind part);
+      values = ap (λ (r : Reading). r.values) c.self.view_is;
       last = refl;
     }
 
