@@ -7,7 +7,7 @@ use Rattle.io_edge.specs.Told.{Added, AddedFront, added_front}
 use Rattle.lib_create.specs.declared.stop.Stop.{Stop}
 use Rattle.lib_create.specs.declared.stop.Stop.TheVariants.{ReadFault, WriteFault, NoMemory}
 use Rattle.lib_create.specs.Outcome.{Verdict, Done, Misused, SourceAbsent, SourceRefused, StimulusAbsent, Bad, status_of, message_of, Ends}
-use Rattle.lib_create.specs.Playing.{IsPlayCause}
+use Rattle.lib_create.specs.Running.{IsPlayCause}
 use Rattle.lib_create.specs.Answer.{write_fault, no_memory, Answered, CutShort, CutMessage, Completed}
 use Rattle.lib_create.specs.Telling.{ToldAs, stop_status, stop_text}
 use Rattle.lib_create.proofs.Ending.{OneEnd}

@@ -1,29 +1,47 @@
--- The bytes of a source: what refuses them, and the design that they spell.
-use Rattle.std.proofs.Common.{◌≡◌, ℕ, ◌≤◌, ◌<◌, List, length, sym, subst, arith, Option, None}
-use Rattle.std.specs.Prelude.{IfNone}
+-- The bytes of a source: why they are refused, and the design that they spell.
+use Rattle.std.proofs.Common.{◌≡◌, ℕ, ◌≤◌, ◌<◌, List, length, sym, subst, arith, ◌∙◌, Option, None, Some, Result, Ok, Err, Global}
+use Rattle.std.specs.Prelude.{IfSome, IfOk}
+use Rattle.std.specs.FinMap.{get}
+use Rattle.std.specs.declared.vec.Vec.{Vec}
+use Rattle.io_edge.specs.File.{Files}
+use Rattle.lib_create.specs.Loading.{IsLoaded}
+use Rattle.lib_create.specs.declared.load.Loaded.{Loaded}
+use Rattle.lib_create.specs.declared.load.Loaded.TheVariants.{Bytes}
+use Rattle.lib_create.specs.declared.stop.Stop.{Stop}
+use Rattle.sv_base.specs.declared.refusal.Refusal.{Refusal}
 use Rattle.net_ir.specs.declared.design.Spec.{Spec}
-use Rattle.net_ir.specs.Plain.{IsPlain}
+use Rattle.lib_create.specs.declared.compile.Compiled.{Compiled}
+use Rattle.lib_create.specs.declared.compile.Compiled.TheVariants.{Design}
 use Rattle.lib_create.specs.declared.tree.Module.{Module}
-use Rattle.lib_create.specs.Design.{design_of, IsLegal}
+use Rattle.lib_create.specs.Compiling.{IsCompiled, IsFit}
+use Rattle.lib_create.specs.Design.{names_of, design_of, IsLegal, IsIllegal}
 use Rattle.lib_create.specs.Grammar.{Spells}
-use Rattle.lib_create.specs.Outcome.{source_limit, IsSource}
-use Rattle.lib_create.proofs.Few.{ports_within}
+use Rattle.lib_create.specs.Outcome.{source_limit, IsRefused, NoDesign}
+use Rattle.lib_create.proofs.Few.{names_within}
+use Rattle.lib_create.proofs.Names.{ports_distinct}
 
-pub none_at : {X : Type 0} (P : Type 0) (o : Option X) → o ≡ None → IfNone o P → P
-none_at {X = X} P o is holds = let Q : Option X → Type 0 = λ q. IfNone q P in subst Q is holds
-
-pub few_ports : (bytes : List ℕ) (m : Module) → length bytes ≤ source_limit → Spells 1 bytes m → length m.ports < 4294967296
-few_ports bytes m short spells =
-    let within = ports_within 1 bytes m spells in
+pub few_names : (bytes : List ℕ) (m : Module) → length bytes ≤ source_limit → Spells 1 bytes m → length (names_of m) < 4294967296
+few_names bytes m short spells =
+    let within = names_within 1 bytes m spells in
     omega (arith, within, short)
 
-pub refused_unread : (top bytes : List ℕ) → ((m : Module) → Spells 1 bytes m → ⊥) → (m : Module) → IsSource top bytes m → ⊥
-refused_unread top bytes none m source = none m source.spells
+pub refused_design : (top asked bytes : List ℕ) (m : Module) (refusal : Refusal) → asked ≡ top → length bytes ≤ source_limit → Spells 1 bytes m → IsIllegal asked m refusal → IsRefused top bytes refusal
+refused_design top asked bytes m refusal same short spells illegal = NoDesign short m spells (subst (λ t. IsIllegal t m refusal) same illegal)
 
-pub refused_unlawful : (top asked bytes : List ℕ) (m : Module) → ((file : ℕ) (bytes : List ℕ) (first second : Module) → Spells file bytes first → Spells file bytes second → first ≡ second)
-    → asked ≡ top → Spells 1 bytes m → (IsLegal asked m → ⊥) → (n : Module) → IsSource top bytes n → ⊥
-refused_unlawful top asked bytes m one same spells none n source =
-    none (subst (λ t. IsLegal t m) (sym same) (subst (λ k. IsLegal top k) (one 1 bytes n m source.spells spells) source.legal))
+pub design_fit : (top : List ℕ) (m : Module) (spec : Spec) → spec ≡ design_of m → IsLegal top m → IsFit (Design spec)
+design_fit top m spec made legal = subst (λ s. IsFit (Design s)) (sym made) (legal.plain, ports_distinct m legal.names)
 
-pub design_plain : (top : List ℕ) (m : Module) (spec : Spec) → (spec ≡ design_of m) × IsLegal top m → IsPlain spec
-design_plain top m spec made = subst (λ s. IsPlain s) (sym made.0) made.1.plain
+-- the bytes that were read of a file are what its name holds
+loaded_is : (found : Option (List ℕ)) (limit : ℕ) (top bytes : List ℕ) (loaded : Loaded) (v : Vec ℕ Global) (compiled : Compiled) → loaded ≡ Bytes v → bytes ≡ v.items → IsLoaded found limit loaded → IsCompiled (Some bytes) top compiled → IsCompiled found top compiled
+loaded_is None limit top bytes loaded v compiled same items is compiles = absurd (subst (IsLoaded None limit) same is)
+loaded_is (Some held) limit top bytes loaded v compiled same items is compiles =
+    let read : IsLoaded (Some held) limit (Bytes v) = subst (IsLoaded (Some held) limit) same is in
+    subst (λ bs. IsCompiled (Some bs) top compiled) (items ∙ read.0) compiles
+
+loaded_told : (content : Option Files) (name : List ℕ) (limit : ℕ) (top bytes : List ℕ) (loaded : Loaded) (v : Vec ℕ Global) (compiled : Compiled) → loaded ≡ Bytes v → bytes ≡ v.items → IfSome content (λ files. IsLoaded (get files name) limit loaded) → IsCompiled (Some bytes) top compiled → IfSome content (λ files. IsCompiled (get files name) top compiled)
+loaded_told None name limit top bytes loaded v compiled same items is compiles = tt
+loaded_told (Some files) name limit top bytes loaded v compiled same items is compiles = loaded_is (get files name) limit top bytes loaded v compiled same items is compiles
+
+pub loaded_compiled : (result : Result Compiled Stop) (content : Option Files) (name : List ℕ) (limit : ℕ) (top bytes : List ℕ) (loaded : Loaded) (v : Vec ℕ Global) → loaded ≡ Bytes v → bytes ≡ v.items → IfSome content (λ files. IsLoaded (get files name) limit loaded) → IfOk result (λ compiled. IsCompiled (Some bytes) top compiled) → IfOk result (λ compiled. IfSome content (λ files. IsCompiled (get files name) top compiled))
+loaded_compiled (Ok compiled) content name limit top bytes loaded v same items is compiles = loaded_told content name limit top bytes loaded v compiled same items is compiles
+loaded_compiled (Err stop) content name limit top bytes loaded v same items is compiles = tt

@@ -1,17 +1,15 @@
--- A text is cut in one way at most, and spells one module at most.
+-- A text is cut in one way at most.
 use Rattle.std.proofs.Common.{◌≡◌, ℕ, ◌+◌, ◌<◌, Bool, true, false, cond, List, [], ◌∷◌, ◌++◌, length, take, drop, refl, sym, ap, subst, ◌∙◌, arith, inl, inr}
-use Rattle.std.specs.Prelude.{◌||◌, ◌==◌, IsTrue, Option, Some, None, Result, Ok, Err, IfOk, IfNone}
+use Rattle.std.specs.Prelude.{◌&&◌, ◌||◌, ◌==◌, IsTrue}
 use Rattle.std.specs.List.{list_all, prefix_len}
 use Rattle.std.proofs.lemmas.Bool.{and_parts, or_cases, eqb-true}
 use Rattle.std.proofs.lemmas.List.{take_at, drop_at}
 use Rattle.std.proofs.lemmas.List.Folds.{list_all-append}
-use Rattle.lib_create.specs.Spelling.{begins_name, continues_name, is_name}
+use Rattle.sv_base.specs.Spelling.{begins_name, continues_name, is_name}
 use Rattle.lib_create.specs.declared.token.Token.{Token}
-use Rattle.lib_create.specs.declared.tree.Module.{Module}
-use Rattle.lib_create.specs.Grammar.{is_blank, line_ends, EndsName, IsTokenText, IsCut, Fill, module_slots, Spells}
-use Rattle.lib_create.specs.TokenReading.{token_len}
+use Rattle.lib_create.specs.Grammar.{is_blank, line_ends, EndsName, EndsSign, IsTokenText, IsCut}
+use Rattle.lib_create.specs.TokenReading.{sign_len, token_len}
 use Rattle.lib_create.proofs.TokenLemmas.{FailsFirst}
-use Rattle.lib_create.proofs.ModuleLemmas.{one_tree}
 
 -- ---- the front of a text
 
@@ -51,16 +49,31 @@ is_no_blank b begins = by (is_blank b) refl
           ]
         ])
 
+-- a byte that is a sign by itself takes one
+single_len : (b : ℕ) (rest : List ℕ) → EndsSign (b ∷ []) rest → sign_len b rest ≡ 1
+single_len b [] h = refl
+single_len b (c ∷ rest) h = by (b == 60 && c == 61) refl
+  where
+    by : (v : Bool) → (b == 60 && c == 61) ≡ v → ◌≡◌ {A = ℕ} (cond v 2 1) 1
+    by true e =
+        let both = and_parts (b == 60) (c == 61) e in
+        absurd (h (λ i. eqb-true b 60 both.0 i ∷ []) (eqb-true c 61 both.1))
+    by false e = refl
+
 -- a token begins with no blank, and takes as many bytes as stand at its front
 token_len_is : (text rest : List ℕ) → IsTokenText text rest → (length text ≡ token_len (text ++ rest)) × FailsFirst is_blank (text ++ rest) × (0 < length text)
 token_len_is [] rest (inl h) = let named : is_name [] ≡ true = h.0 in absurd cc
-token_len_is [] rest (inr h) = absurd h
+token_len_is [] rest (inr (inl h)) = absurd cc
+token_len_is [] rest (inr (inr h)) = absurd h.0
 token_len_is (b ∷ bytes) rest (inl h) =
     let both = and_parts (begins_name b) (list_all continues_name bytes) h.0 in
     let whole = prefix_whole continues_name bytes rest both.1 (ends_fails rest h.1) in
     (rw both.0 (omega (arith, whole)), is_no_blank b both.0, omega arith)
-token_len_is (b ∷ []) rest (inr h) = (rw h.0 refl, h.1, omega arith)
-token_len_is (b ∷ c ∷ bytes) rest (inr h) = absurd h
+token_len_is (b ∷ bytes) rest (inr (inl h)) =
+    let Fine : List ℕ → Type 0 = λ text. (length text ≡ token_len (text ++ rest)) × FailsFirst is_blank (text ++ rest) × (0 < length text) in
+    subst Fine (sym h) (refl, refl, omega arith)
+token_len_is (b ∷ []) rest (inr (inr h)) = (rw (h.0.0, single_len b rest h.1) refl, h.0.1, omega arith)
+token_len_is (b ∷ c ∷ bytes) rest (inr (inr h)) = absurd h.0
 
 -- ---- one cut
 
@@ -115,17 +128,3 @@ one_cut file line bytes (t ∷ ts) (u ∷ us) h k =
     let cut : IsCut file (line + line_ends h.0) h.1 us = subst (λ (p : ℕ × List ℕ). IsCut file p.0 p.1 us) (λ i. (lines i, rest i)) k.7 in
     let tail = one_cut file (line + line_ends h.0) h.1 ts us h.7 cut in
     λ i. head i ∷ tail i
-
--- two modules that one text spells are one
-pub one_module : (file : ℕ) (bytes : List ℕ) (m n : Module) → Spells file bytes m → Spells file bytes n → m ≡ n
-one_module file bytes m n p q =
-    let same = one_cut file 1 bytes q.tokens p.tokens q.cut p.cut in
-    one_tree p.tokens m n p.ports p.fill q.ports (subst (λ (tokens : List Token). Fill (module_slots n) tokens) same q.fill)
-
--- where the one cut of a text fills the slots of no module, the text spells none
-pub none_spelled : {E : Type 0} (file : ℕ) (bytes : List ℕ) (tokens : List Token) (read : Result (Option Module) E) → IsCut file 1 bytes tokens
-    → IfOk read (λ found. IfNone found ((m : Module) → 0 < length m.ports → Fill (module_slots m) tokens → ⊥))
-    → IfOk read (λ found. IfNone found ((m : Module) → Spells file bytes m → ⊥))
-none_spelled file bytes tokens (Ok None) cut none = λ m s. none m s.ports (subst (Fill (module_slots m)) (one_cut file 1 bytes s.tokens tokens s.cut cut) s.fill)
-none_spelled file bytes tokens (Ok (Some m)) cut none = tt
-none_spelled file bytes tokens (Err e) cut none = tt

@@ -1,12 +1,16 @@
--- A module has no more ports than the text that spells it has bytes.
-use Rattle.std.proofs.Common.{◌≡◌, ℕ, ◌+◌, ◌≤◌, suc, List, [], ◌∷◌, ◌++◌, length, refl, ap, arith, inl, inr, length-append}
+-- A module declares no more names than the text that spells it has bytes.
+use Rattle.std.proofs.Common.{◌≡◌, ℕ, ◌+◌, ◌≤◌, suc, List, [], ◌∷◌, ◌++◌, length, map, refl, ap, arith, inl, inr, length-append}
+use Rattle.std.proofs.lemmas.List.{length-map}
 use Rattle.std.specs.Prelude.{codes, IsTrue}
 use Rattle.std.specs.List.{flat_map}
-use Rattle.lib_create.specs.Spelling.{is_name}
+use Rattle.sv_base.specs.Spelling.{is_name}
 use Rattle.lib_create.specs.declared.token.Token.{Token}
 use Rattle.lib_create.specs.declared.tree.PortDeclaration.{PortDeclaration}
+use Rattle.lib_create.specs.declared.tree.Item.{Item}
+use Rattle.lib_create.specs.declared.tree.Item.TheVariants as item
 use Rattle.lib_create.specs.declared.tree.Module.{Module}
-use Rattle.lib_create.specs.Grammar.{IsSingle, IsTokenText, IsCut, Slot, Text, Fill, port_slots, port_list_slots, assignment_slots, module_slots, Spells}
+use Rattle.lib_create.specs.Design.{item_declares, names_of}
+use Rattle.lib_create.specs.Grammar.{IsSingle, IsTokenText, IsCut, Slot, Text, Fill, port_slots, port_list_slots, item_slots, module_slots, Spells}
 
 -- no token is empty
 name_long : (text : List ℕ) → IsTrue (is_name text) → 1 ≤ length text
@@ -19,7 +23,8 @@ single_long (b ∷ text) single = omega arith
 
 token_long : (text rest : List ℕ) → IsTokenText text rest → 1 ≤ length text
 token_long text rest (inl name) = name_long text name.0
-token_long text rest (inr single) = single_long text single
+token_long text rest (inr (inl sign)) = omega (arith, ap length sign)
+token_long text rest (inr (inr single)) = single_long text single.0
 
 tokens_within : (file line : ℕ) (bytes : List ℕ) (tokens : List Token) → IsCut file line bytes tokens → length tokens ≤ length bytes
 tokens_within file line bytes [] cut = omega arith
@@ -42,16 +47,38 @@ ports_have_slots (p ∷ q ∷ ports) =
     let rest = ports_have_slots (q ∷ ports) in
     omega (arith, length-append (port_slots p) (Text (codes ",") ∷ port_list_slots (q ∷ ports)))
 
-module_has_slots : (m : Module) → length m.ports ≤ length (module_slots m)
-module_has_slots m =
-    let rest = ports_have_slots m.ports in
-    let last : List Slot = Text (codes "endmodule") ∷ [] in
-    let body : List Slot = Text (codes ")") ∷ Text (codes ";") ∷ flat_map assignment_slots m.assignments in
-    omega (arith, length-append (port_list_slots m.ports ++ body) last, length-append (port_list_slots m.ports) body)
+item_has_slots : (i : Item) → length (item_declares i) ≤ length (item_slots i)
+item_has_slots (item.Assign a) = omega arith
+item_has_slots (item.Declare name) = omega arith
+item_has_slots (item.Process p) = omega arith
 
-pub ports_within : (file : ℕ) (bytes : List ℕ) (m : Module) → Spells file bytes m → length m.ports ≤ length bytes
-ports_within file bytes m spells =
+items_have_slots : (items : List Item) → length (flat_map item_declares items) ≤ length (flat_map item_slots items)
+items_have_slots [] = omega arith
+items_have_slots (i ∷ items) =
+    let here = item_has_slots i in
+    let rest = items_have_slots items in
+    omega (arith, here, rest, length-append (item_declares i) (flat_map item_declares items), length-append (item_slots i) (flat_map item_slots items))
+
+module_has_slots : (m : Module) → length (names_of m) ≤ length (module_slots m)
+module_has_slots m =
+    let ports = ports_have_slots m.ports in
+    let items = items_have_slots m.items in
+    let last : List Slot = Text (codes "endmodule") ∷ [] in
+    let body : List Slot = Text (codes ")") ∷ Text (codes ";") ∷ flat_map item_slots m.items in
+    omega (
+      arith,
+      ports,
+      items,
+      length-append (port_list_slots m.ports ++ body) last,
+      length-append (port_list_slots m.ports) body,
+      length-append (map (λ (p : PortDeclaration). p.name.text) m.ports) (map (λ (t : Token). t.text) (flat_map item_declares m.items)),
+      length-map m.ports (λ (p : PortDeclaration). p.name.text),
+      length-map (flat_map item_declares m.items) (λ (t : Token). t.text),
+    )
+
+pub names_within : (file : ℕ) (bytes : List ℕ) (m : Module) → Spells file bytes m → length (names_of m) ≤ length bytes
+names_within file bytes m spells =
     let a = tokens_within file 1 bytes spells.tokens spells.cut in
-    let b = slots_within (module_slots m) spells.tokens spells.fill in
+    let b = slots_within (module_slots m) spells.tokens spells.are.fill in
     let c = module_has_slots m in
     omega arith

@@ -1,22 +1,32 @@
--- The design of a module whose names are declared: its assignments are whole and lawful.
-use Rattle.std.proofs.Common.{◌≡◌, ℕ, ◌<◌, Bool, true, false, zero, suc, List, [], ◌∷◌, length, map, refl, sym, ◌∙◌, ap, subst, arith, lit≤}
-use Rattle.std.specs.Prelude.{Option, None, Some, slice_index, unwrap_or}
-use Rattle.std.specs.Option.{IsSome}
-use Rattle.std.specs.List.{AllByRecursion}
+-- The design of a module whose names are right: its assignments are whole and lawful.
+use Rattle.std.proofs.Common.{◌≡◌, ℕ, ◌<◌, Bool, true, false, cond, zero, suc, List, [], ◌∷◌, ◌++◌, length, map, refl, sym, ◌∙◌, ap, subst, arith, lit≤, append_assoc, length-append}
+use Rattle.std.specs.Prelude.{⊤, Option, None, Some, slice_index, unwrap_or}
+use Rattle.std.specs.Option.{IsSome, is_some}
+use Rattle.std.specs.List.{AllByRecursion, flat_map}
 use Rattle.std.specs.Str.{bytes_eq}
+use Rattle.std.proofs.lemmas.List.{append-nil, length-map, map-append}
 use Rattle.std.proofs.lemmas.List.Quantifiers.{position-Some}
 use Rattle.bit_ops.specs.Width.{IsWidth, WidthsFit}
 use Rattle.bit_ops.specs.declared.operation.Op.{Op}
 use Rattle.bit_ops.specs.declared.operation.Op.TheVariants as op
+use Rattle.sv_base.specs.declared.kind.Kind.TheVariants.{DuplicateName, UnknownName}
 use Rattle.sv_base.specs.declared.refusal.Place.{Place}
+use Rattle.sv_base.specs.declared.refusal.Refusal.{Refusal}
 use Rattle.net_ir.specs.declared.term.Term.{Term, Read, Apply}
 use Rattle.net_ir.specs.declared.term.Term.TheOpen as layer
 use Rattle.net_ir.specs.declared.term.Term.TheVariants.{outs-Read, outs-Apply, rolls-Read, rolls-Apply}
 use Rattle.net_ir.specs.declared.term.Term.TheFolds.{map-Term, every_made-Term, fold_out-Term}
+use Rattle.net_ir.specs.declared.statement.Stmt.{Stmt}
+use Rattle.net_ir.specs.declared.statement.Stmt as statement
+use Rattle.net_ir.specs.declared.statement.Stmt.TheOpen as open_layer
+use Rattle.net_ir.specs.declared.statement.Stmt.TheOpen.{Stmt-F}
+use Rattle.net_ir.specs.declared.statement.Stmt.TheVariants.{rolls-Block, rolls-Assign}
+use Rattle.net_ir.specs.declared.statement.Stmt.TheFolds.{every-Stmt, every_made-Stmt}
+use Rattle.net_ir.specs.declared.design.Role.TheVariants as role
+use Rattle.net_ir.specs.declared.design.Var.{Var}
 use Rattle.net_ir.specs.declared.design.Target.TheVariants.{Of}
-use Rattle.net_ir.specs.declared.design.Driver.TheVariants as driver
 use Rattle.net_ir.specs.Value.{widths_of, operand_of, operand_of_layer, size}
-use Rattle.net_ir.specs.Plain.{IsLawfulLayer, IsLawful, IsWhole, HaveInitialValues}
+use Rattle.net_ir.specs.Plain.{IsLawfulLayer, IsLawful, IsWholeTo, IsWholeLayer, IsWhole, HaveInitialValues}
 use Rattle.lib_create.specs.declared.token.Token.{Token}
 use Rattle.lib_create.specs.declared.tree.Operator.{Operator}
 use Rattle.lib_create.specs.declared.tree.Operator.TheVariants.{And, Or, Xor}
@@ -24,37 +34,129 @@ use Rattle.lib_create.specs.declared.tree.Operand.{Operand}
 use Rattle.lib_create.specs.declared.tree.Expression.{Expression}
 use Rattle.lib_create.specs.declared.tree.Expression.TheVariants.{Single, Pair}
 use Rattle.lib_create.specs.declared.tree.PortDeclaration.{PortDeclaration}
-use Rattle.lib_create.specs.declared.tree.Assignment.{Assignment}
-use Rattle.lib_create.specs.Design.{var_of, number_of, read_of, negated_if, operand_term, operation_of, term_of, driver_of, operand_names, expression_names, IsKnownTo}
-use Rattle.lib_create.specs.Elaborating.{AreDeclared}
-use Rattle.lib_create.proofs.Binding.{all_front, all_back}
+use Rattle.lib_create.specs.declared.tree.Piece.{Piece}
+use Rattle.lib_create.specs.declared.tree.Piece.TheVariants as piece
+use Rattle.lib_create.specs.declared.tree.Item.{Item}
+use Rattle.lib_create.specs.declared.tree.Item.TheVariants as item
+use Rattle.lib_create.specs.declared.tree.Module.{Module}
+use Rattle.lib_create.specs.Design.{number_of, read_of, var_of, port_var, negated_if, operand_term, operation_of, term_of, target_of, piece_statements, item_declares, item_drivers, names_of, design_of, Naming, Declares, Uses, expression_names, piece_names, item_names, namings_of, refused_by, is_declared, first_bad_name}
+use Rattle.lib_create.proofs.Naming.{number_stays}
+use Rattle.lib_create.proofs.Told.{declared_in, declared_some, declared_by_item, port_naming, declared_ports, texts, declared_both}
 
--- the widths of the variables
-abbrev pub port_widths : List PortDeclaration → List ℕ
-port_widths ports = widths_of (map var_of ports)
+-- ---- names that are used are declared
 
--- each variable has an initial value of its width
-pub initial_values : (ports : List PortDeclaration) → HaveInitialValues (map var_of ports)
-initial_values [] = tt
-initial_values (p ∷ ports) = (refl, initial_values ports)
-
-many_widths : (ports : List PortDeclaration) → length (port_widths ports) ≡ length ports
-many_widths [] = refl
-many_widths (p ∷ ports) = ap suc (many_widths ports)
-
-one_wide : (ports : List PortDeclaration) (k : ℕ) → k < length ports → slice_index (port_widths ports) k ≡ 1
-one_wide [] k within = absurd (omega arith)
-one_wide (p ∷ ports) zero within = refl
-one_wide (p ∷ ports) (suc k) within = one_wide ports k (omega arith)
-
--- a name that is declared means a port that is there
-number_within : (ports : List PortDeclaration) (name : List ℕ) (k : ℕ) → number_of ports name ≡ Some k → k < length ports
-number_within [] name k is = absurd (cc)
-number_within (p ∷ ports) name k is = (position-Some (λ (q : PortDeclaration). bytes_eq q.name.text name) (p ∷ ports) k p is).0
+-- a name that is used has a number
+abbrev pub UsedIn : List (List ℕ) → Naming → Type 0
+UsedIn names (Declares name) = ⊤
+UsedIn names (Uses name) = IsSome (number_of names name.text)
 
 some_number : (o : Option ℕ) → IsSome o → o ≡ Some (unwrap_or o 0)
 some_number None some = absurd (cc)
 some_number (Some k) some = refl
+
+none_declares : (b : Bool) (refusal : Refusal) (rest : Option Refusal) → cond b (Some refusal) rest ≡ None → rest ≡ None
+none_declares true refusal rest none = absurd (cc)
+none_declares false refusal rest none = none
+
+none_uses : (b : Bool) (refusal : Refusal) (rest : Option Refusal) → cond b rest (Some refusal) ≡ None → (b ≡ true) × (rest ≡ None)
+none_uses true refusal rest none = (refl, none)
+none_uses false refusal rest none = absurd (cc)
+
+all_used : (names : List (List ℕ)) (xs : List Naming) (more : List (List ℕ)) → first_bad_name names xs ≡ None → AllByRecursion (UsedIn ((names ++ declared_in xs) ++ more)) xs
+all_used names [] more none = tt
+all_used names (Declares name ∷ xs) more none =
+    let rest = none_declares (is_declared names name) (refused_by DuplicateName name) (first_bad_name (names ++ name.text ∷ []) xs) none in
+    (tt, subst (λ ns. AllByRecursion (UsedIn (ns ++ more)) xs) (append_assoc names (name.text ∷ []) (declared_in xs)) (all_used (names ++ name.text ∷ []) xs more rest))
+all_used names (Uses name ∷ xs) more none =
+    let parts = none_uses (is_declared names name) (refused_by UnknownName name) (first_bad_name names xs) none in
+    let k = unwrap_or (number_of names name.text) 0 in
+    let there : number_of names name.text ≡ Some k = some_number (number_of names name.text) (sym (declared_some names name) ∙ parts.0) in
+    let stays : number_of ((names ++ declared_in xs) ++ more) name.text ≡ Some k = ap (λ ns. number_of ns name.text) (append_assoc names (declared_in xs) more) ∙ number_stays names (declared_in xs ++ more) name.text k there in
+    (ap is_some stays, all_used names xs more parts.1)
+
+-- what holds of both parts holds of the whole, and back
+all_front : {X : Type 0} (P : X → Type 0) (xs ys : List X) → AllByRecursion P (xs ++ ys) → AllByRecursion P xs
+all_front P [] ys all = tt
+all_front P (x ∷ xs) ys all = (all.0, all_front P xs ys all.1)
+
+all_back : {X : Type 0} (P : X → Type 0) (xs ys : List X) → AllByRecursion P (xs ++ ys) → AllByRecursion P ys
+all_back P [] ys all = all
+all_back P (x ∷ xs) ys all = all_back P xs ys all.1
+
+all_both : {X : Type 0} (P : X → Type 0) (xs ys : List X) → AllByRecursion P xs → AllByRecursion P ys → AllByRecursion P (xs ++ ys)
+all_both P [] ys front back = back
+all_both P (x ∷ xs) ys front back = (front.0, all_both P xs ys front.1 back)
+
+declared_by_items : (items : List Item) → declared_in (flat_map item_names items) ≡ texts (flat_map item_declares items)
+declared_by_items [] = refl
+declared_by_items (x ∷ items) =
+    declared_both (item_names x) (flat_map item_names items)
+    ∙ ap (λ ns. ns ++ declared_in (flat_map item_names items)) (declared_by_item x)
+    ∙ ap (λ ns. texts (item_declares x) ++ ns) (declared_by_items items)
+    ∙ sym (map-append (λ (t : Token). t.text) (item_declares x) (flat_map item_declares items))
+
+-- the names that items use are names of the module
+items_used : (m : Module) → first_bad_name [] (namings_of m) ≡ None → AllByRecursion (UsedIn (names_of m)) (flat_map item_names m.items)
+items_used m none =
+    let front = map port_naming m.ports in
+    let behind = flat_map item_names m.items in
+    let all : declared_in (front ++ behind) ++ [] ≡ names_of m =
+    append-nil (declared_in (front ++ behind)) ∙ declared_both front behind ∙ ap (λ ns. ns ++ declared_in behind) (declared_ports m.ports) ∙ ap (λ ns. map (λ (p : PortDeclaration). p.name.text) m.ports ++ ns) (declared_by_items m.items) in
+    all_back (UsedIn (names_of m)) front behind (subst (λ ns. AllByRecursion (UsedIn ns) (front ++ behind)) all (all_used [] (front ++ behind) [] none))
+
+-- ---- variables of one bit
+
+-- each name is that of a variable of one bit
+record AreBits (names : List (List ℕ)) (ws : List ℕ) : Type 0 where
+  many : length ws ≡ length names
+  one_bit : (k : ℕ) → k < length ws → slice_index ws k ≡ 1
+
+ones : (vars : List Var) → AllByRecursion (λ (v : Var). v.width ≡ 1) vars → (k : ℕ) → k < length (widths_of vars) → slice_index (widths_of vars) k ≡ 1
+ones [] all k within = absurd (omega arith)
+ones (v ∷ vars) all zero within = all.0
+ones (v ∷ vars) all (suc k) within = ones vars all.1 k (omega arith)
+
+port_bits : (ports : List PortDeclaration) → AllByRecursion (λ (v : Var). v.width ≡ 1) (map port_var ports)
+port_bits [] = tt
+port_bits (p ∷ ports) = (refl, port_bits ports)
+
+inner_bits : (names : List Token) → AllByRecursion (λ (v : Var). v.width ≡ 1) (map (var_of role.Inner) names)
+inner_bits [] = tt
+inner_bits (name ∷ names) = (refl, inner_bits names)
+
+port_initial : (ports : List PortDeclaration) → HaveInitialValues (map port_var ports)
+port_initial [] = tt
+port_initial (p ∷ ports) = (refl, port_initial ports)
+
+inner_initial : (names : List Token) → HaveInitialValues (map (var_of role.Inner) names)
+inner_initial [] = tt
+inner_initial (name ∷ names) = (refl, inner_initial names)
+
+-- each variable has an initial value of its width
+pub initial_values : (m : Module) → HaveInitialValues (design_of m).vars
+initial_values m = all_both (λ (v : Var). v.init.width ≡ v.width) (map port_var m.ports) (map (var_of role.Inner) (flat_map item_declares m.items)) (port_initial m.ports) (inner_initial (flat_map item_declares m.items))
+
+module_bits : (m : Module) → AreBits (names_of m) (widths_of (design_of m).vars)
+module_bits m =
+    let declares = flat_map item_declares m.items in
+    let ports : List Var = map port_var m.ports in
+    let inner : List Var = map (var_of role.Inner) declares in
+    let a = length-map (ports ++ inner) (λ (v : Var). v.width) in
+    let b = length-append ports inner in
+    let c = length-map m.ports port_var in
+    let d = length-map declares (var_of role.Inner) in
+    let e = length-append (map (λ (p : PortDeclaration). p.name.text) m.ports) (map (λ (t : Token). t.text) declares) in
+    let f = length-map m.ports (λ (p : PortDeclaration). p.name.text) in
+    let g = length-map declares (λ (t : Token). t.text) in
+    record {
+      many = omega arith;
+      one_bit = ones (ports ++ inner) (all_both (λ (v : Var). v.width ≡ 1) ports inner (port_bits m.ports) (inner_bits declares));
+    }
+
+-- a name that has a number means a variable that is there
+number_within : (names : List (List ℕ)) (name : List ℕ) (k : ℕ) → number_of names name ≡ Some k → k < length names
+number_within [] name k is = absurd (cc)
+number_within (n ∷ names) name k is = (position-Some (λ other. bytes_eq other name) (n ∷ names) k n is).0
 
 -- ---- a term of one bit
 
@@ -94,42 +196,82 @@ bit_pair ws o a b left right = record {
   wide = size_apply ws (operation_of o) 1 0 (a ∷ b ∷ []);
 }
 
--- ---- the terms and drivers of a module
-
-bit_named : (ports : List PortDeclaration) (name : Token) → IsSome (number_of ports name.text) → IsBit (port_widths ports) (read_of ports name)
-bit_named ports name some =
-    let k = unwrap_or (number_of ports name.text) 0 in
-    let there : k < length ports = number_within ports name.text k (some_number (number_of ports name.text) some) in
-    bit_read (port_widths ports) k name.place (subst (λ n. k < n) (sym (many_widths ports)) there) (one_wide ports k there)
+bit_named : (names : List (List ℕ)) (ws : List ℕ) (name : Token) → AreBits names ws → IsSome (number_of names name.text) → IsBit ws (read_of names name)
+bit_named names ws name bits some =
+    let k = unwrap_or (number_of names name.text) 0 in
+    let there : k < length names = number_within names name.text k (some_number (number_of names name.text) some) in
+    let within : k < length ws = subst (λ n. k < n) (sym bits.many) there in
+    bit_read ws k name.place within (bits.one_bit k within)
 
 bit_negated : (ws : List ℕ) (negated : Bool) (a : Term) → IsBit ws a → IsBit ws (negated_if negated a)
 bit_negated ws true a is = bit_not ws a is
 bit_negated ws false a is = is
 
-bit_operand : (ports : List PortDeclaration) (o : Operand) → AreDeclared ports (operand_names o) → IsBit (port_widths ports) (operand_term ports o)
-bit_operand ports o known = bit_negated (port_widths ports) o.negated (read_of ports o.name) (bit_named ports o.name known.0)
+bit_operand : (names : List (List ℕ)) (ws : List ℕ) (o : Operand) → AreBits names ws → IsSome (number_of names o.name.text) → IsBit ws (operand_term names o)
+bit_operand names ws o bits some = bit_negated ws o.negated (read_of names o.name) (bit_named names ws o.name bits some)
 
-bit_term : (ports : List PortDeclaration) (e : Expression) → AreDeclared ports (expression_names e) → IsBit (port_widths ports) (term_of ports e)
-bit_term ports (Single only) known = bit_operand ports only known
-bit_term ports (Pair first o second) known =
-    bit_pair (port_widths ports) o (operand_term ports first) (operand_term ports second)
-    (bit_operand ports first (all_front (λ x. IsSome (number_of ports x)) (operand_names first) (operand_names second) known))
-    (bit_operand ports second (all_back (λ x. IsSome (number_of ports x)) (operand_names first) (operand_names second) known))
+bit_term : (names : List (List ℕ)) (ws : List ℕ) (e : Expression) → AreBits names ws → AllByRecursion (UsedIn names) (expression_names e) → IsBit ws (term_of names e)
+bit_term names ws (Single only) bits used = bit_operand names ws only bits used.0
+bit_term names ws (Pair first o second) bits used =
+    bit_pair ws o (operand_term names first) (operand_term names second) (bit_operand names ws first bits used.0) (bit_operand names ws second bits used.1.0)
 
-whole_at : (ports : List PortDeclaration) (a : Assignment) (o : Option ℕ) → number_of ports a.target.text ≡ o → IsSome o → IsBit (port_widths ports) (term_of ports a.value) → IsWhole (port_widths ports) (driver_of ports a)
-whole_at ports a None is some bit = absurd (cc)
-whole_at ports a (Some k) is some bit =
-    let there : k < length ports = number_within ports a.target.text k is in
-    subst (λ t. IsWhole (port_widths ports) (driver.Assign (Of t a.target.text a.target.place) (term_of ports a.value) a.target.place)) (sym is) (record {
-      there = subst (λ n. k < n) (sym (many_widths ports)) there;
-      width = bit.wide ∙ sym (one_wide ports k there);
+-- ---- assignments, statements and drivers
+
+whole_at : (names : List (List ℕ)) (ws : List ℕ) (target : Token) (value : Term) (o : Option ℕ) → AreBits names ws → number_of names target.text ≡ o → IsSome o → IsBit ws value → IsWholeTo ws (Of o target.text target.place) value
+whole_at names ws target value None bits is some bit = absurd (cc)
+whole_at names ws target value (Some k) bits is some bit =
+    let there : k < length names = number_within names target.text k is in
+    let within : k < length ws = subst (λ n. k < n) (sym bits.many) there in
+    record {
+      there = within;
+      width = bit.wide ∙ sym (bits.one_bit k within);
       lawful = bit.lawful;
-    })
+    }
 
-whole_driver : (ports : List PortDeclaration) (a : Assignment) → IsKnownTo ports a → IsWhole (port_widths ports) (driver_of ports a)
-whole_driver ports a known = whole_at ports a (number_of ports a.target.text) refl known.0 (bit_term ports a.value known.1)
+whole_to : (names : List (List ℕ)) (ws : List ℕ) (target : Token) (e : Expression) → AreBits names ws → AllByRecursion (UsedIn names) (Uses target ∷ expression_names e) → IsWholeTo ws (target_of names target) (term_of names e)
+whole_to names ws target e bits used = whole_at names ws target (term_of names e) (number_of names target.text) bits refl used.0 (bit_term names ws e bits used.1)
 
--- the drivers of assignments of known names
-pub whole_drivers : (ports : List PortDeclaration) (assignments : List Assignment) → AllByRecursion (IsKnownTo ports) assignments → AllByRecursion (IsWhole (port_widths ports)) (map (driver_of ports) assignments)
-whole_drivers ports [] known = tt
-whole_drivers ports (a ∷ assignments) known = (whole_driver ports a known.0, whole_drivers ports assignments known.1)
+-- each statement of a list with what holds of it
+held : (Q : Stmt-F Stmt → Type 0) (parts : List Stmt) → AllByRecursion (every-Stmt Q) parts → List ((s : Stmt) × every-Stmt Q s)
+held Q [] all = []
+held Q (s ∷ parts) all = (s, all.0) ∷ held Q parts all.1
+
+held_parts : (Q : Stmt-F Stmt → Type 0) (parts : List Stmt) (all : AllByRecursion (every-Stmt Q) parts) → map (λ (e : (s : Stmt) × every-Stmt Q s). e.0) (held Q parts all) ≡ parts
+unfolding held
+held_parts Q [] all = refl
+held_parts Q (s ∷ parts) all = ap (λ ss. s ∷ ss) (held_parts Q parts all.1)
+
+every_block : (Q : Stmt-F Stmt → Type 0) (parts : List Stmt) → AllByRecursion (every-Stmt Q) parts → Q (open_layer.Block parts) → every-Stmt Q (statement.Block parts)
+every_block Q parts all here = subst (every-Stmt Q) (rolls-Block parts) (every_made-Stmt Q (open_layer.Block parts) (open_layer.Block (held Q parts all)) (ap (λ ss. open_layer.Block ss) (held_parts Q parts all)) here)
+
+whole_piece : (names : List (List ℕ)) (ws : List ℕ) (p : Piece) → AreBits names ws → AllByRecursion (UsedIn names) (piece_names p) → AllByRecursion (every-Stmt (IsWholeLayer ws)) (piece_statements names p)
+whole_piece names ws piece.Begin bits used = tt
+whole_piece names ws piece.End bits used = tt
+whole_piece names ws (piece.Assign a) bits used =
+    let target = target_of names a.target in
+    let value = term_of names a.value in
+    (subst (every-Stmt (IsWholeLayer ws)) (rolls-Assign false target value) (every_made-Stmt (IsWholeLayer ws) (open_layer.Assign false target value) (open_layer.Assign false target value) refl (refl, whole_to names ws a.target a.value bits used)), tt)
+
+whole_pieces : (names : List (List ℕ)) (ws : List ℕ) (pieces : List Piece) → AreBits names ws → AllByRecursion (UsedIn names) (flat_map piece_names pieces) → AllByRecursion (every-Stmt (IsWholeLayer ws)) (flat_map (piece_statements names) pieces)
+whole_pieces names ws [] bits used = tt
+whole_pieces names ws (p ∷ pieces) bits used =
+    all_both (every-Stmt (IsWholeLayer ws)) (piece_statements names p) (flat_map (piece_statements names) pieces)
+    (whole_piece names ws p bits (all_front (UsedIn names) (piece_names p) (flat_map piece_names pieces) used))
+    (whole_pieces names ws pieces bits (all_back (UsedIn names) (piece_names p) (flat_map piece_names pieces) used))
+
+whole_item : (names : List (List ℕ)) (ws : List ℕ) (x : Item) → AreBits names ws → AllByRecursion (UsedIn names) (item_names x) → AllByRecursion (IsWhole ws) (item_drivers names x)
+whole_item names ws (item.Assign a) bits used = (whole_to names ws a.target a.value bits used, tt)
+whole_item names ws (item.Declare name) bits used = tt
+whole_item names ws (item.Process p) bits used =
+    (every_block (IsWholeLayer ws) (flat_map (piece_statements names) p.body) (whole_pieces names ws p.body bits used.1) tt, tt)
+
+whole_items : (names : List (List ℕ)) (ws : List ℕ) (items : List Item) → AreBits names ws → AllByRecursion (UsedIn names) (flat_map item_names items) → AllByRecursion (IsWhole ws) (flat_map (item_drivers names) items)
+whole_items names ws [] bits used = tt
+whole_items names ws (x ∷ items) bits used =
+    all_both (IsWhole ws) (item_drivers names x) (flat_map (item_drivers names) items)
+    (whole_item names ws x bits (all_front (UsedIn names) (item_names x) (flat_map item_names items) used))
+    (whole_items names ws items bits (all_back (UsedIn names) (item_names x) (flat_map item_names items) used))
+
+-- the drivers of a module whose names are right
+pub whole_drivers : (m : Module) → first_bad_name [] (namings_of m) ≡ None → AllByRecursion (IsWhole (widths_of (design_of m).vars)) (design_of m).drivers
+whole_drivers m none = whole_items (names_of m) (widths_of (design_of m).vars) m.items (module_bits m) (items_used m none)

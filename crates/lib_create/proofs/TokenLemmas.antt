@@ -1,13 +1,14 @@
 -- The token at the front of a text is the first of a cut of it.
 use Rattle.std.proofs.Common.{◌≡◌, ℕ, ◌+◌, ◌<◌, Bool, true, false, cond, List, [], ◌∷◌, ◌++◌, length, take, drop, refl, sym, ap, subst, ◌∙◌, arith, inl, inr, take-append-drop}
-use Rattle.std.specs.Prelude.{◌&&◌, IsTrue}
+use Rattle.std.specs.Prelude.{◌&&◌, ◌==◌, ◌⊎◌, IsTrue, codes}
 use Rattle.std.specs.List.{list_all, prefix_len}
 use Rattle.std.proofs.Math.Numerals.{one-add}
 use Rattle.std.proofs.lemmas.List.{append-nil, nil_from_length}
-use Rattle.lib_create.specs.Spelling.{begins_name, continues_name}
+use Rattle.std.proofs.lemmas.Bool.{and_parts, eqb-true}
+use Rattle.sv_base.specs.Spelling.{begins_name, continues_name}
 use Rattle.lib_create.specs.declared.token.Token.{Token}
-use Rattle.lib_create.specs.Grammar.{is_blank, line_ends, EndsName, IsTokenText, IsCut}
-use Rattle.lib_create.specs.TokenReading.{token_len, IsNext}
+use Rattle.lib_create.specs.Grammar.{is_blank, line_ends, EndsName, IsSingle, EndsSign, IsTokenText, IsCut}
+use Rattle.lib_create.specs.TokenReading.{sign_len, token_len, IsNext}
 
 -- no element that passes stands at the front
 abbrev pub FailsFirst : (ℕ → Bool) → List ℕ → Type 0
@@ -34,16 +35,35 @@ ends_name : (bytes : List ℕ) → FailsFirst continues_name bytes → EndsName 
 ends_name [] h = tt
 ends_name (b ∷ bytes) h = h
 
+-- `<` with `=` behind it is no sign by itself
+pub is_whole_sign : (b c : ℕ) → (b == 60 && c == 61) ≡ false → (b ∷ []) ≡ codes "<" → c ≡ 61 → ⊥
+is_whole_sign b c other first second =
+    let b-is : b ≡ 60 = cc in
+    let yes : (b == 60 && c == 61) ≡ true = (λ i. b-is i == 60 && second i == 61) in
+    cc
+
+-- the text of the sign at the front of what begins with no blank and no name
+sign_text : (b : ℕ) (bytes : List ℕ) → begins_name b ≡ false → is_blank b ≡ false
+    → (take (sign_len b bytes) (b ∷ bytes) ≡ codes "<=") ⊎ (IsSingle (take (sign_len b bytes) (b ∷ bytes)) × EndsSign (take (sign_len b bytes) (b ∷ bytes)) (drop (sign_len b bytes) (b ∷ bytes)))
+sign_text b [] plain solid = inr ((plain, solid), tt)
+sign_text b (c ∷ bytes) plain solid = by (b == 60 && c == 61) refl
+  where
+    by : (v : Bool) → (b == 60 && c == 61) ≡ v → (take (cond v 2 1) (b ∷ c ∷ bytes) ≡ codes "<=") ⊎ (IsSingle (take (cond v 2 1) (b ∷ c ∷ bytes)) × EndsSign (take (cond v 2 1) (b ∷ c ∷ bytes)) (drop (cond v 2 1) (b ∷ c ∷ bytes)))
+    by true e =
+        let both = and_parts (b == 60) (c == 61) e in
+        inl (λ i. eqb-true b 60 both.0 i ∷ eqb-true c 61 both.1 i ∷ [])
+    by false e = inr ((plain, solid), is_whole_sign b c e)
+
 -- the text of the token at the front of what begins with no blank
 token_text : (bytes : List ℕ) → 0 < length bytes → FailsFirst is_blank bytes → IsTokenText (take (token_len bytes) bytes) (drop (token_len bytes) bytes)
 token_text [] some h = absurd (omega arith)
 token_text (b ∷ bytes) some h = by (begins_name b) refl
   where
-    by : (v : Bool) → begins_name b ≡ v → IsTokenText (take (cond v (1 + prefix_len continues_name bytes) 1) (b ∷ bytes)) (drop (cond v (1 + prefix_len continues_name bytes) 1) (b ∷ bytes))
+    by : (v : Bool) → begins_name b ≡ v → IsTokenText (take (cond v (1 + prefix_len continues_name bytes) (sign_len b bytes)) (b ∷ bytes)) (drop (cond v (1 + prefix_len continues_name bytes) (sign_len b bytes)) (b ∷ bytes))
     by true e =
         subst (λ n. IsTokenText (take n (b ∷ bytes)) (drop n (b ∷ bytes))) (sym (one-add (prefix_len continues_name bytes)))
         (inl (ap (λ v. v && list_all continues_name (take (prefix_len continues_name bytes) bytes)) e ∙ front_passes continues_name bytes, ends_name (drop (prefix_len continues_name bytes) bytes) (back_fails continues_name bytes)))
-    by false e = inr (e, h)
+    by false e = inr (sign_text b bytes e h)
 
 pub next_found : (file line : ℕ) (bytes blanks after text rest : List ℕ)
     → blanks ≡ take (prefix_len is_blank bytes) bytes → after ≡ drop (prefix_len is_blank bytes) bytes

@@ -34,7 +34,6 @@ use Rattle.lib_create.specs.declared.tree.PortDeclaration.{PortDeclaration}
 use Rattle.lib_create.specs.declared.tree.Assignment.{Assignment}
 use Rattle.lib_create.specs.declared.tree.Piece.{Piece}
 use Rattle.lib_create.specs.declared.tree.Piece.TheVariants as piece
-use Rattle.lib_create.specs.declared.tree.Process.{Process}
 use Rattle.lib_create.specs.declared.tree.Item.{Item}
 use Rattle.lib_create.specs.declared.tree.Item.TheVariants as item
 use Rattle.lib_create.specs.declared.tree.Module.{Module}

@@ -1,6 +1,7 @@
 pub mod Command
 pub mod Grammar
 pub mod Design
+pub mod Elaborating
 pub mod Outcome
 pub mod Answer
 pub mod Faults
@@ -11,3 +12,6 @@ pub mod Loading
 pub mod Verdicts
 pub mod Compiling
 pub mod Telling
+pub mod Drafting
+pub mod Reading
+pub mod Benching

@@ -1,14 +1,29 @@
 //! A plain design on a bench, stepped by the plain evaluator.
 
+ghost use Rattle.std.specs.Prelude.{◌≡◌, ◌<◌, ◌^◌, length, map, slice_index, IfOk};
+ghost use Rattle.std.specs.List.{AllByRecursion};
+ghost use Rattle.bit_ops.specs.Lists.{words, widths};
+ghost use Rattle.net_ir.specs.Face.{ports_of, face_of};
+ghost use Rattle.net_ir.specs.Value.{widths_of};
+ghost use Rattle.net_ir.specs.Plain.{HaveInitialValues, IsPlain};
+ghost use Rattle.net_ir.specs.Pass.{KeepsInitial, state_of};
+ghost use Rattle.net_ir.specs.Run.{start};
+ghost use Rattle.net_ir.specs.Solution.{Solves};
+ghost use Rattle.model_stage.specs.Bench.{places_from, input_places, clock_places, output_places, level_words, IsShown};
+ghost use Rattle.lib_create.specs.Benching.{is_of, set_places, Solves-prop};
+
 use bit_ops::Bits;
-use net_ir::Spec;
+use model_stage::Bench;
+use net_ir::{Spec, Var, sample, solve};
+use std::alloc::{AllocError, Global};
+use sv_base::{Class, Face, Port};
 
 /// A plain design with its state, settled.
 #[derive(Drop)]
 pub struct PlainBench {
     spec: Spec,
     // the places of the data inputs, of the clocks and of the outputs among the variables
-    data: Vec<usize>,
+    data_inputs: Vec<usize>,
     clocks: Vec<usize>,
     outputs: Vec<usize>,
     // a value for each variable, of which those of inputs, of registers and all count
@@ -17,4 +32,171 @@ pub struct PlainBench {
     values: Vec<Bits>,
     // the levels of the inputs before a clock step
     before: Vec<Bits>,
+    ghost plain: { ∥ IsPlain spec ∥₁ },
+    ghost data_inputs_places: { data_inputs.items ≡ input_places (ports_of spec) },
+    ghost clocks_places: { clocks.items ≡ clock_places (ports_of spec) },
+    ghost outputs_places: { outputs.items ≡ output_places (ports_of spec) },
+    ghost inputs_widths: { widths inputs.items ≡ widths_of spec.vars },
+    ghost registers_widths: { widths registers.items ≡ widths_of spec.vars },
+    ghost values_widths: { widths values.items ≡ widths_of spec.vars },
+    ghost before_widths: { widths before.items ≡ widths_of spec.vars },
+    ghost initial: { KeepsInitial spec (words registers.items) },
+    ghost solved: { Solves spec (state_of inputs.items registers.items) (words values.items) } by { Solves-prop spec (state_of inputs.items registers.items) (words values.items) },
+}
+
+impl PlainBench {
+    /// The bench of a plain design with this face, at its start. Takes all the memory that its steps need.
+    pub fn new(alloc: Global, spec: Spec, face: &Face) -> Result<PlainBench, AllocError>
+        requires plain { IsPlain spec }
+        requires face { face.now ≡ face_of spec }
+        ensures design { IfOk result (λ bench. bench.spec ≡ spec) }
+        ensures state { IfOk result (λ bench. state_of bench.inputs.items bench.registers.items ≡ start spec) }
+    {
+        let ports = face.ports.as_slice();
+        let data_inputs = places_of(alloc, ports, Class::Value)?;
+        let clocks = places_of(alloc, ports, Class::Clock)?;
+        let outputs = places_of(alloc, ports, Class::Output)?;
+        let vars = spec.vars.as_slice();
+        let inputs = zeros(alloc, vars)?;
+        let registers = initial_values(alloc, vars)?;
+        let mut values = zeros(alloc, vars)?;
+        let before = zeros(alloc, vars)?;
+        solve(
+            &spec,
+            inputs.as_slice(),
+            registers.as_slice(),
+            values.as_mut_slice(),
+        );
+        Ok(PlainBench {
+            spec,
+            data_inputs,
+            clocks,
+            outputs,
+            inputs,
+            registers,
+            values,
+            before,
+        })
+    }
+
+    /// The value of an output, counted from 0 in port order.
+    fn shown(&self, k: usize) -> Bits
+        requires { k < length (output_places (ports_of self.now.spec)) }
+        ensures { IsShown self.now.spec (state_of self.now.inputs.items self.now.registers.items) k result }
+    {
+        self.values[self.outputs[k]]
+    }
+}
+
+impl Bench for PlainBench {
+    ghost design = { λ bench. bench.spec };
+
+    ghost state = { λ bench. state_of bench.inputs.items bench.registers.items };
+
+    // no step takes of it
+    ghost room = { λ bench. 2 ^ 63 };
+
+    ghost settled = { λ bench. (words bench.values.items, bench.solved) };
+
+    fn set_values(&mut self, inputs: &[Bits]) {
+        set_inputs(
+            self.inputs.as_mut_slice(),
+            self.data_inputs.as_slice(),
+            inputs,
+        );
+        solve(
+            &self.spec,
+            self.inputs.as_slice(),
+            self.registers.as_slice(),
+            self.values.as_mut_slice(),
+        );
+    }
+
+    fn set_clocks(&mut self, levels: &[bool]) {
+        self.before
+            .as_mut_slice()
+            .copy_from_slice(self.inputs.as_slice());
+        set_levels(self.inputs.as_mut_slice(), self.clocks.as_slice(), levels);
+        sample(
+            &self.spec,
+            self.values.as_slice(),
+            self.before.as_slice(),
+            self.inputs.as_slice(),
+            self.registers.as_mut_slice(),
+        );
+        solve(
+            &self.spec,
+            self.inputs.as_slice(),
+            self.registers.as_slice(),
+            self.values.as_mut_slice(),
+        );
+    }
+
+    fn out(&self, k: usize) -> Bits {
+        self.shown(k)
+    }
+}
+
+/// The places of the ports of a class, in port order.
+fn places_of(alloc: Global, ports: &[Port], class: Class) -> Result<Vec<usize>, AllocError>
+    ensures { IfOk result (λ places. places.items ≡ places_from (is_of class) 0 ports.now) }
+{
+    let mut places = Vec::new(alloc);
+    for (place, port) in ports.iter().enumerate() {
+        if port.class == class {
+            places.push(place)?;
+        }
+    }
+    Ok(places)
+}
+
+/// A value for each variable, all 0.
+fn zeros(alloc: Global, vars: &[Var]) -> Result<Vec<Bits>, AllocError>
+    requires { HaveInitialValues vars.now }
+    ensures widths { IfOk result (λ values. widths values.items ≡ widths_of vars.now) }
+    ensures words { IfOk result (λ values. words values.items ≡ map (λ _. 0) vars.now) }
+{
+    let mut values = Vec::with_capacity(alloc, vars.len())?;
+    for var in vars {
+        values.push(Bits::zero(var.init.width))?;
+    }
+    Ok(values)
+}
+
+/// The initial value of each variable.
+fn initial_values(alloc: Global, vars: &[Var]) -> Result<Vec<Bits>, AllocError>
+    requires { HaveInitialValues vars.now }
+    ensures widths { IfOk result (λ values. widths values.items ≡ widths_of vars.now) }
+    ensures words { IfOk result (λ values. words values.items ≡ map (λ v. v.init.word) vars.now) }
+{
+    let mut values = Vec::with_capacity(alloc, vars.len())?;
+    for var in vars {
+        values.push(var.init)?;
+    }
+    Ok(values)
+}
+
+/// Gives each of the places its value.
+fn set_inputs(values: &mut [Bits], places: &[usize], given: &[Bits])
+    requires within { AllByRecursion (λ place. place < length values.old) places.now }
+    requires given { widths given.now ≡ map (slice_index (widths values.old)) places.now }
+    ensures widths { widths values.new ≡ widths values.old }
+    ensures words { words values.new ≡ set_places places.now (words given.now) (words values.old) }
+{
+    for (k, place) in places.iter().enumerate() {
+        values[*place] = given[k];
+    }
+}
+
+/// Gives each of the places, which have one bit, its level.
+fn set_levels(values: &mut [Bits], places: &[usize], levels: &[bool])
+    requires within { AllByRecursion (λ place. place < length values.old) places.now }
+    requires one_bit { AllByRecursion (λ place. slice_index (widths values.old) place ≡ 1) places.now }
+    requires each { length levels.now ≡ length places.now }
+    ensures widths { widths values.new ≡ widths values.old }
+    ensures words { words values.new ≡ set_places places.now (level_words levels.now) (words values.old) }
+{
+    for (k, place) in places.iter().enumerate() {
+        values[*place] = Bits::flag(levels[k]);
+    }
 }

@@ -4,11 +4,13 @@
 mod bench;
 mod command;
 mod compile;
+mod draft;
 mod elaboration;
 mod fault;
 mod law;
 mod load;
 mod playing;
+mod reading;
 mod run;
 #[cfg(test)]
 mod run_tests;

@@ -167,7 +167,8 @@ always_ff @(posedge clk) begin a <= b; b <= ~a; end endmodule";
 const IDLE: &str = "module t(input logic clk, input logic i, input logic d, output logic q); \
 always_ff @(posedge clk) q <= d; endmodule";
 
-const TWO_CLOCKS: &str = "module t(input logic c1, input logic c2, output logic a, output logic b); \
+const TWO_CLOCKS: &str =
+    "module t(input logic c1, input logic c2, output logic a, output logic b); \
 always_ff @(posedge c1) a <= b; always_ff @(posedge c2) b <= ~a; endmodule";
 
 const WRITTEN_TWICE: &str = "module t(input logic clk, output logic q, output logic r); \
@@ -287,31 +288,106 @@ const REFUSED: [(&str, &str); 28] = [
     ("", "t.sv:0: Unexpected\n"),
     ("\n\n", "t.sv:0: Unexpected\n"),
     ("endmodule", "t.sv:1: Unexpected endmodule\n"),
-    ("module t(input logic a, output logic y);\nassign y = a +;\nendmodule", "t.sv:2: Unexpected +\n"),
-    ("module t(input logic a, output logic y);\nassign y = b;\nendmodule", "t.sv:2: UnknownName b\n"),
-    ("module t(input logic a, output logic y);\nassign y =\n", "t.sv:2: Unexpected\n"),
-    ("module t(input logic a, output logic y); initial y = 0; endmodule", "t.sv:1: Unexpected initial\n"),
-    ("module t(input logic a, output logic y); assign y <= a; endmodule", "t.sv:1: Unexpected\n"),
-    ("module t(input logic a, output logic y); # endmodule", "t.sv:1: Unexpected #\n"),
-    ("module t(input logic a, output logic y); assign y = a; endmodule\nx", "t.sv:2: Unexpected x\n"),
-    ("module t(input logic a, output logic y);\nalways_ff @(negedge a) y <= a;\nendmodule", "t.sv:2: Unexpected negedge\n"),
-    ("module t(input logic a, output logic y); always_ff @(posedge a) begin endmodule", "t.sv:1: Unexpected endmodule\n"),
-    ("module u(input logic a, output logic y); assign y = ~a; endmodule", "-:0: UnknownName t\n"),
-    ("module t(input logic a,\ninput logic a, output logic y); assign y = a; endmodule", "t.sv:2: DuplicateName a\n"),
-    ("module t(input logic a, output logic y); assign y = a & b; endmodule", "t.sv:1: UnknownName b\n"),
-    ("module t(input logic a, output logic y); assign z = b; endmodule", "t.sv:1: UnknownName z\n"),
-    ("module t(input logic a, output logic y);\nlogic q;\nlogic y;\nendmodule", "t.sv:3: DuplicateName y\n"),
-    ("module t(input logic a, output logic y);\nassign y = q;\nlogic q;\nendmodule", "t.sv:2: UnknownName q\n"),
-    ("module t(input logic a, output logic y); always_ff @(posedge k) y <= z; endmodule", "t.sv:1: UnknownName k\n"),
-    ("module t(input logic a, output logic y, output logic z); assign y = ~z; assign z = a; endmodule", UNSUPPORTED),
-    ("module t(input logic a, output logic y); assign y = a; assign y = ~a; endmodule", UNSUPPORTED),
-    ("module t(input logic a, output logic y); assign y = a; assign y = a; endmodule", UNSUPPORTED),
-    ("module t(input logic a, output logic y); assign a = y; endmodule", UNSUPPORTED),
-    ("module t(input logic a, output logic y); assign y = ~y; endmodule", UNSUPPORTED),
-    ("module t(input logic k, output logic y); always_ff @(posedge k) y <= k; endmodule", UNSUPPORTED),
-    ("module t(output logic k, output logic y); always_ff @(posedge k) y <= ~y; endmodule", UNSUPPORTED),
-    ("module t(input logic k, output logic y); assign y = y; always_ff @(posedge k) y <= ~y; endmodule", UNSUPPORTED),
-    ("module t(input logic k, input logic a, output logic y); always_ff @(posedge k) begin y <= a; a <= y; end endmodule", UNSUPPORTED),
+    (
+        "module t(input logic a, output logic y);\nassign y = a +;\nendmodule",
+        "t.sv:2: Unexpected +\n",
+    ),
+    (
+        "module t(input logic a, output logic y);\nassign y = b;\nendmodule",
+        "t.sv:2: UnknownName b\n",
+    ),
+    (
+        "module t(input logic a, output logic y);\nassign y =\n",
+        "t.sv:2: Unexpected\n",
+    ),
+    (
+        "module t(input logic a, output logic y); initial y = 0; endmodule",
+        "t.sv:1: Unexpected initial\n",
+    ),
+    (
+        "module t(input logic a, output logic y); assign y <= a; endmodule",
+        "t.sv:1: Unexpected\n",
+    ),
+    (
+        "module t(input logic a, output logic y); # endmodule",
+        "t.sv:1: Unexpected #\n",
+    ),
+    (
+        "module t(input logic a, output logic y); assign y = a; endmodule\nx",
+        "t.sv:2: Unexpected x\n",
+    ),
+    (
+        "module t(input logic a, output logic y);\nalways_ff @(negedge a) y <= a;\nendmodule",
+        "t.sv:2: Unexpected negedge\n",
+    ),
+    (
+        "module t(input logic a, output logic y); always_ff @(posedge a) begin endmodule",
+        "t.sv:1: Unexpected endmodule\n",
+    ),
+    (
+        "module u(input logic a, output logic y); assign y = ~a; endmodule",
+        "-:0: UnknownName t\n",
+    ),
+    (
+        "module t(input logic a,\ninput logic a, output logic y); assign y = a; endmodule",
+        "t.sv:2: DuplicateName a\n",
+    ),
+    (
+        "module t(input logic a, output logic y); assign y = a & b; endmodule",
+        "t.sv:1: UnknownName b\n",
+    ),
+    (
+        "module t(input logic a, output logic y); assign z = b; endmodule",
+        "t.sv:1: UnknownName z\n",
+    ),
+    (
+        "module t(input logic a, output logic y);\nlogic q;\nlogic y;\nendmodule",
+        "t.sv:3: DuplicateName y\n",
+    ),
+    (
+        "module t(input logic a, output logic y);\nassign y = q;\nlogic q;\nendmodule",
+        "t.sv:2: UnknownName q\n",
+    ),
+    (
+        "module t(input logic a, output logic y); always_ff @(posedge k) y <= z; endmodule",
+        "t.sv:1: UnknownName k\n",
+    ),
+    (
+        "module t(input logic a, output logic y, output logic z); assign y = ~z; assign z = a; endmodule",
+        UNSUPPORTED,
+    ),
+    (
+        "module t(input logic a, output logic y); assign y = a; assign y = ~a; endmodule",
+        UNSUPPORTED,
+    ),
+    (
+        "module t(input logic a, output logic y); assign y = a; assign y = a; endmodule",
+        UNSUPPORTED,
+    ),
+    (
+        "module t(input logic a, output logic y); assign a = y; endmodule",
+        UNSUPPORTED,
+    ),
+    (
+        "module t(input logic a, output logic y); assign y = ~y; endmodule",
+        UNSUPPORTED,
+    ),
+    (
+        "module t(input logic k, output logic y); always_ff @(posedge k) y <= k; endmodule",
+        UNSUPPORTED,
+    ),
+    (
+        "module t(output logic k, output logic y); always_ff @(posedge k) y <= ~y; endmodule",
+        UNSUPPORTED,
+    ),
+    (
+        "module t(input logic k, output logic y); assign y = y; always_ff @(posedge k) y <= ~y; endmodule",
+        UNSUPPORTED,
+    ),
+    (
+        "module t(input logic k, input logic a, output logic y); always_ff @(posedge k) begin y <= a; a <= y; end endmodule",
+        UNSUPPORTED,
+    ),
 ];
 
 #[test]
@@ -367,7 +443,11 @@ fn bad_stimuli_end_the_trace(rt: HostRuntime) -> Result<(), Fail> {
 
 // Stimuli of the design with two registers, the steps of their traces behind step 0, and the message.
 const BAD_CLOCKS: [(&str, &str, &str); 5] = [
-    ("c clk=1\nd clk=0", "1 1 0 1\n", "stimulus 2: clk is a clock\n"),
+    (
+        "c clk=1\nd clk=0",
+        "1 1 0 1\n",
+        "stimulus 2: clk is a clock\n",
+    ),
     ("c clk=2", "", "stimulus 1: 2 is no value\n"),
     ("c clk=01", "", "stimulus 1: 01 is no value\n"),
     ("c a=1", "", "stimulus 1: a is no input\n"),

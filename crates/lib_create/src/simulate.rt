@@ -10,6 +10,7 @@ ghost use Rattle.lib_create.specs.Outcome.{Ends};
 
 use crate::command::read_words;
 use crate::compile::{Compiled, compile};
+use crate::law;
 use crate::playing::run_design;
 use crate::stop::Stop;
 use crate::verdict::Verdict;
@@ -33,6 +34,8 @@ pub fn simulate<'a, D: Folder, K: Sink>(
     ensures no_write { D.write_faults folder.new ≡ D.write_faults folder.old }
     ensures out_later { K.faults out.old ≤ K.faults out.new }
 {
+    law::one_module();
+    law::one_outside();
     let sim = match read_words(words) {
         Err(misuse) => return Ok(Verdict::Misused(misuse)),
         Ok(sim) => sim,

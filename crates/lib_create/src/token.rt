@@ -5,13 +5,13 @@ ghost use Rattle.std.specs.List.{list_all, prefix_len};
 ghost use Rattle.sv_base.specs.Spelling.{continues_name};
 ghost use Rattle.lib_create.specs.Grammar.{is_blank, line_ends, IsCut};
 ghost use Rattle.lib_create.specs.Outcome.{source_limit};
-ghost use Rattle.lib_create.specs.TokenReading.{token_len, IsNext};
+ghost use Rattle.lib_create.specs.TokenReading.{sign_len, token_len, IsNext};
 
-use sv_base::spelling::{begins_name, continues_name};
 use std::alloc::{AllocError, Global};
+use sv_base::spelling::{begins_name, continues_name};
 use sv_base::{Name, Place};
 
-/// A name, or a byte by itself that is no blank and begins no name, with the place where it stands.
+/// A name, the sign `<=`, or a byte by itself that is no blank and begins no name, with the place where it stands.
 #[derive(Debug, Drop)]
 pub struct Token {
     pub text: Name,
@@ -41,6 +41,22 @@ fn name_len(bytes: &[u8]) -> usize
         .count()
 }
 
+fn sign_len(first: u8, rest: &[u8]) -> usize
+    ensures value { result ≡ sign_len first rest.now }
+    ensures within { result ≤ 1 + length rest.now }
+{
+    match rest {
+        [] => 1,
+        [second, ..] => {
+            if first == b'<' && *second == b'=' {
+                2
+            } else {
+                1
+            }
+        }
+    }
+}
+
 fn token_len(bytes: &[u8]) -> usize
     ensures value { result ≡ token_len bytes.now }
     ensures within { result ≤ length bytes.now }
@@ -51,7 +67,7 @@ fn token_len(bytes: &[u8]) -> usize
             if begins_name(*first) {
                 1 + name_len(rest)
             } else {
-                1
+                sign_len(*first, rest)
             }
         }
     }

@@ -1,23 +1,38 @@
 use Rattle.std.proofs.Common.{◌∙◌, rules}
 use Rattle.std.proofs.lemmas.Grind.{common_steps}
-use Rattle.lib_create.proofs.Elaborated.{elaborated, some_at, initial_of, whole_of, legal_of}
+use Rattle.std.proofs.lemmas.Result.{err_from_is_err_and}
+use Rattle.lib_create.proofs.Elaborated.{elaborated, bad_name, initial_of, whole_of, same_design, legal_of, not_plain_of}
 use Rattle.lib_create.proofs.elaboration.elaborate.Goals as goal
 
-pub can_be_taken_in_order-requires-clause-vars : goal.can_be_taken_in_order-requires-clause-vars
-can_be_taken_in_order-requires-clause-vars c =
-    initial_of c.args.tree.now c.in_ok-variables.field-0 c.in-Some-2.drivers
-    (elaborated c.args.tree.now c.in-Some.scope.ports.now c.as_slice.result.now c.as_slice-3.result.now c.as_slice-2.result.now c.in_ok-variables.field-0 c.in-Some-2.drivers c.in_ok-drivers.field-0
-    c.as_slice.ensures c.as_slice-2.ensures c.as_slice-3.ensures (some_at _ c.in_ok-scope.field-0 c.in-Some.scope c.in-Some.is c.in_ok-scope.ensures.some) c.in-Some-2.is c.in_ok-drivers.ensures c.in_ok-variables.ensures)
+pub returns-in_err-scope-clause-refused : goal.returns-in_err-scope-clause-refused
+returns-in_err-scope-clause-refused c =
+    let p = err_from_is_err_and c.from_residual-in_err-scope.result c.from_residual-in_err-scope.ensures.1 in
+    rw (p.1, p.2) (bad_name c.args.tree.now c.args.top.now c.in_err-scope.field-0.0 (search (rules, common_steps)) c.in_err-scope.ensures)
 
-pub can_be_taken_in_order-requires-clause-whole : goal.can_be_taken_in_order-requires-clause-whole
-can_be_taken_in_order-requires-clause-whole c =
-    whole_of c.args.tree.now c.in_ok-variables.field-0 c.in-Some-2.drivers
-    (elaborated c.args.tree.now c.in-Some.scope.ports.now c.as_slice.result.now c.as_slice-3.result.now c.as_slice-2.result.now c.in_ok-variables.field-0 c.in-Some-2.drivers c.in_ok-drivers.field-0
-    c.as_slice.ensures c.as_slice-2.ensures c.as_slice-3.ensures (some_at _ c.in_ok-scope.field-0 c.in-Some.scope c.in-Some.is c.in_ok-scope.ensures.some) c.in-Some-2.is c.in_ok-drivers.ensures c.in_ok-variables.ensures)
+pub is_plain-requires-clause-vars : goal.is_plain-requires-clause-vars
+is_plain-requires-clause-vars c =
+    initial_of c.args.tree.now c.from_vec.result c.from_vec-2.result
+    (elaborated c.args.tree.now c.in_ok-scope.field-0.scope.vars.items c.from_vec.result c.in_ok-scope.field-0.drivers.items c.from_vec-2.result c.in_ok-scope.ensures c.from_vec.ensures c.from_vec-2.ensures)
 
-pub returns-then-branch-clause-some : goal.returns-then-branch-clause-some
-returns-then-branch-clause-some c =
-    legal_of c.args.tree.now c.args.top.now c.in_ok-of.field-0 c.in_ok-variables.field-0 c.in-Some-2.drivers c.in_ok-can_be_taken_in_order.field-0
-    (elaborated c.args.tree.now c.in-Some.scope.ports.now c.as_slice.result.now c.as_slice-3.result.now c.as_slice-2.result.now c.in_ok-variables.field-0 c.in-Some-2.drivers c.in_ok-drivers.field-0
-    c.as_slice.ensures c.as_slice-2.ensures c.as_slice-3.ensures (some_at _ c.in_ok-scope.field-0 c.in-Some.scope c.in-Some.is c.in_ok-scope.ensures.some) c.in-Some-2.is c.in_ok-drivers.ensures c.in_ok-variables.ensures)
-    (c.in_ok-of.ensures ∙ c.bytes-2.ensures) (search (rules, common_steps)) (search rules) c.in_ok-can_be_taken_in_order.ensures
+pub is_plain-requires-clause-whole : goal.is_plain-requires-clause-whole
+is_plain-requires-clause-whole c =
+    whole_of c.args.tree.now c.from_vec.result c.from_vec-2.result
+    (elaborated c.args.tree.now c.in_ok-scope.field-0.scope.vars.items c.from_vec.result c.in_ok-scope.field-0.drivers.items c.from_vec-2.result c.in_ok-scope.ensures c.from_vec.ensures c.from_vec-2.ensures)
+
+pub returns-then-branch-clause-design : goal.returns-then-branch-clause-design
+returns-then-branch-clause-design c =
+    same_design c.args.tree.now c.in_ok-of.field-0 c.from_vec.result c.from_vec-2.result
+    (elaborated c.args.tree.now c.in_ok-scope.field-0.scope.vars.items c.from_vec.result c.in_ok-scope.field-0.drivers.items c.from_vec-2.result c.in_ok-scope.ensures c.from_vec.ensures c.from_vec-2.ensures)
+    (c.in_ok-of.ensures ∙ c.bytes-2.ensures)
+
+pub returns-then-branch-clause-legal : goal.returns-then-branch-clause-legal
+returns-then-branch-clause-legal c =
+    legal_of c.args.tree.now c.args.top.now c.in_ok-of.field-0 c.from_vec.result c.from_vec-2.result c.in_ok-is_plain.field-0
+    (elaborated c.args.tree.now c.in_ok-scope.field-0.scope.vars.items c.from_vec.result c.in_ok-scope.field-0.drivers.items c.from_vec-2.result c.in_ok-scope.ensures c.from_vec.ensures c.from_vec-2.ensures)
+    (c.in_ok-of.ensures ∙ c.bytes-2.ensures) (search (rules, common_steps)) (search rules) c.in_ok-is_plain.ensures
+
+pub returns-clause-refused : goal.returns-clause-refused
+returns-clause-refused c =
+    not_plain_of c.args.tree.now c.args.top.now c.in_ok-of.field-0 c.from_vec.result c.from_vec-2.result c.in_ok-is_plain.field-0 c.in_ok-not_plain.field-0
+    (elaborated c.args.tree.now c.in_ok-scope.field-0.scope.vars.items c.from_vec.result c.in_ok-scope.field-0.drivers.items c.from_vec-2.result c.in_ok-scope.ensures c.from_vec.ensures c.from_vec-2.ensures)
+    (c.in_ok-of.ensures ∙ c.bytes-2.ensures) (search (rules, common_steps)) (search rules) c.in_ok-is_plain.ensures c.in_ok-not_plain.ensures

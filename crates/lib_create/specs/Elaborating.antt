@@ -1,0 +1,164 @@
+-- The walk through a module from left to right: its variables and drivers, or the refusal of its first bad name.
+use Rattle.std.specs.Prelude.{◌≡◌, ℕ, false, List, [], ◌∷◌, ◌++◌, map, Option, None, Some, Result, Ok, Err, ok_or}
+use Rattle.std.specs.Ordering.{nat_cmp}
+use Rattle.std.specs.Cmp.Lexicographic.{slice_cmp}
+use Rattle.std.specs.BTreeMap.{BTreeMap, get_by}
+use denote.Ref.{Bor}
+use Rattle.sv_base.specs.declared.kind.Kind.TheVariants.{DuplicateName, UnknownName}
+use Rattle.sv_base.specs.declared.refusal.Refusal.{Refusal}
+use Rattle.net_ir.specs.declared.term.Term.{Term, Read, Apply}
+use Rattle.net_ir.specs.declared.design.Role.{Role}
+use Rattle.net_ir.specs.declared.design.Role.TheVariants as role
+use Rattle.net_ir.specs.declared.design.Var.{Var}
+use Rattle.net_ir.specs.declared.design.Target.{Target}
+use Rattle.net_ir.specs.declared.design.Target.TheVariants.{Of}
+use Rattle.net_ir.specs.declared.statement.Stmt.{Stmt}
+use Rattle.net_ir.specs.declared.statement.Stmt as statement
+use Rattle.net_ir.specs.declared.design.Trigger.{Trigger}
+use Rattle.net_ir.specs.declared.design.Driver.{Driver}
+use Rattle.net_ir.specs.declared.design.Driver.TheVariants as driver
+use Rattle.lib_create.specs.declared.token.Token.{Token}
+use Rattle.lib_create.specs.declared.fault.SourceFault.{SourceFault}
+use Rattle.lib_create.specs.declared.tree.Operand.{Operand}
+use Rattle.lib_create.specs.declared.tree.Expression.{Expression}
+use Rattle.lib_create.specs.declared.tree.Expression.TheVariants.{Single, Pair}
+use Rattle.lib_create.specs.declared.tree.PortDeclaration.{PortDeclaration}
+use Rattle.lib_create.specs.declared.tree.Assignment.{Assignment}
+use Rattle.lib_create.specs.declared.tree.Piece.{Piece}
+use Rattle.lib_create.specs.declared.tree.Piece.TheVariants as piece
+use Rattle.lib_create.specs.declared.tree.Process.{Process}
+use Rattle.lib_create.specs.declared.tree.Item.{Item}
+use Rattle.lib_create.specs.declared.tree.Item.TheVariants as item
+use Rattle.lib_create.specs.declared.tree.Module.{Module}
+use Rattle.lib_create.specs.Design.{number_of, role_of, var_of, negated_if, operation_of, refused_by}
+use Rattle.lib_create.specs.Faults.{IfRefused}
+
+-- ---- names and their numbers
+
+-- the names of variables
+abbrev pub names_in : List Var → List (List ℕ)
+names_in vars = map (λ (v : Var). v.name) vars
+
+-- what a map has at a name
+abbrev pub number_in : BTreeMap (Bor (List ℕ)) ℕ → List ℕ → Option ℕ
+number_in numbers name = get_by (λ k. slice_cmp nat_cmp name k.now) numbers
+
+-- a map has at each name the number of the variable that the name means
+abbrev pub AreNumbers : List Var → BTreeMap (Bor (List ℕ)) ℕ → Type 0
+AreNumbers vars numbers = (name : List ℕ) → number_in numbers name ≡ number_of (names_in vars) name
+
+-- ---- steps of the walk
+
+infixl 10 ◌>>=◌
+-- a step after a step
+abbrev pub ◌>>=◌ : {A B : Type 0} → Result A Refusal → (A → Result B Refusal) → Result B Refusal
+(Ok x) >>= f = f x
+(Err refusal) >>= f = Err refusal
+
+-- what a function returned, seen by view, is what the walk gives, unless memory ran out
+abbrev pub Gives : {X Y : Type 0} → (X → Y) → Result X SourceFault → Result Y Refusal → Type 0
+Gives view (Ok x) walked = walked ≡ Ok (view x)
+Gives view (Err fault) walked = IfRefused (λ refusal. walked ≡ Err refusal) fault
+
+-- one step after another over a list, from what was found before
+unfoldable pub walk : {S X : Type 0} → (S → X → Result S Refusal) → S → List X → Result S Refusal
+walk step found [] = Ok found
+walk step found (x ∷ xs) = step found x >>= λ next. walk step next xs
+
+-- ---- names
+
+-- the number of a name that is used, where it is declared
+abbrev pub number_at : List (List ℕ) → Token → Result ℕ Refusal
+number_at names name = ok_or (number_of names name.text) (refused_by UnknownName name)
+
+-- this, unless a number says that the name is there already
+abbrev pub unless : {A : Type 0} → Option ℕ → Refusal → A → Result A Refusal
+unless None refusal x = Ok x
+unless (Some number) refusal x = Err refusal
+
+-- the variables with one more
+abbrev pub declare_at : Role → List Var → Token → Result (List Var) Refusal
+declare_at role vars name = unless (number_of (names_in vars) name.text) (refused_by DuplicateName name) (vars ++ var_of role name ∷ [])
+
+-- the variables with that of one more port
+abbrev pub port_at : List Var → PortDeclaration → Result (List Var) Refusal
+port_at vars p = declare_at (role_of p.direction) vars p.name
+
+-- ---- terms and statements
+
+-- the term of an operand, among these names
+unfoldable pub operand_at : List (List ℕ) → Operand → Result Term Refusal
+operand_at names o = do
+  number ← number_at names o.name
+  Ok (negated_if o.negated (Read number o.name.place))
+
+-- the term of an expression; of two bad names the first ends the walk
+unfoldable pub expression_at : List (List ℕ) → Expression → Result Term Refusal
+expression_at names (Single only) = operand_at names only
+expression_at names (Pair first operator second) = do
+  left ← operand_at names first
+  right ← operand_at names second
+  Ok (Apply (operation_of operator) 1 0 (left ∷ right ∷ []))
+
+-- the target that a name is
+unfoldable pub target_at : List (List ℕ) → Token → Result Target Refusal
+target_at names name = do
+  number ← number_at names name
+  Ok (Of (Some number) name.text name.place)
+
+-- the statements with that of one more piece
+unfoldable pub piece_at : List (List ℕ) → List Stmt → Piece → Result (List Stmt) Refusal
+piece_at names parts piece.Begin = Ok parts
+piece_at names parts piece.End = Ok parts
+piece_at names parts (piece.Assign a) = do
+  target ← target_at names a.target
+  value ← expression_at names a.value
+  Ok (parts ++ statement.Assign false target value ∷ [])
+
+-- the statement of pieces: one block of their assignments
+unfoldable pub body_at : List (List ℕ) → List Piece → Result Stmt Refusal
+body_at names pieces = do
+  parts ← walk (piece_at names) [] pieces
+  Ok (statement.Block parts)
+
+-- ---- drivers
+
+-- the driver of a continuous assignment
+unfoldable pub assign_at : List (List ℕ) → Assignment → Result Driver Refusal
+assign_at names a = do
+  target ← target_at names a.target
+  value ← expression_at names a.value
+  Ok (driver.Assign target value a.target.place)
+
+-- the rising edge of a clock
+unfoldable pub trigger_at : List (List ℕ) → Token → Result Trigger Refusal
+trigger_at names clock = do
+  number ← number_at names clock
+  Ok (record { name = clock.text; var = Some number; falling = false; place = clock.place })
+
+-- the driver of a clocked process
+unfoldable pub process_at : List (List ℕ) → Process → Result Driver Refusal
+process_at names p = do
+  trigger ← trigger_at names p.clock
+  body ← body_at names p.body
+  Ok (driver.Clocked (trigger ∷ []) body p.clock.place)
+
+-- ---- items
+
+-- the variables and drivers with those of one more item
+unfoldable pub item_at : List Var × List Driver → Item → Result (List Var × List Driver) Refusal
+item_at found (item.Assign a) = do
+  d ← assign_at (names_in found.0) a
+  Ok (found.0, found.1 ++ d ∷ [])
+item_at found (item.Declare name) = do
+  vars ← declare_at role.Inner found.0 name
+  Ok (vars, found.1)
+item_at found (item.Process p) = do
+  d ← process_at (names_in found.0) p
+  Ok (found.0, found.1 ++ d ∷ [])
+
+-- the variables and drivers of a module
+unfoldable pub module_at : Module → Result (List Var × List Driver) Refusal
+module_at m = do
+  vars ← walk port_at [] m.ports
+  walk item_at (vars, []) m.items
