@@ -65,7 +65,7 @@ fn too_long(alloc: Global) -> Result<Refusal, AllocError>
 }
 
 /// What the bytes of a source are.
-fn compile_bytes(alloc: Global, top: &str, bytes: &[u8]) -> Result<Compiled, Stop>
+pub fn compile_bytes(alloc: Global, top: &str, bytes: &[u8]) -> Result<Compiled, Stop>
     requires short { length bytes.now ≤ source_limit }
     ensures compiled { IfOk result (λ compiled. IsCompiled (Some bytes.now) top.now compiled) }
     ensures fit { IfOk result IsFit }

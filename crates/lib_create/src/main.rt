@@ -9,6 +9,8 @@ mod elaboration;
 mod fault;
 mod law;
 mod load;
+#[cfg(test)]
+mod play_tests;
 mod playing;
 mod reading;
 mod run;
