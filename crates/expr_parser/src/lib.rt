@@ -1,1 +1,16 @@
+//! Reads an expression from tokens (IEEE 1800-2017, clause 11, as far as `docs/language.md` takes it).
 #![tactic(auto)]
+
+mod bracket;
+mod cursor;
+mod fault;
+mod grammar;
+mod operation;
+mod parser;
+mod spelling;
+
+pub use fault::ParseFault;
+pub use parser::parse_expr;
+
+#[cfg(test)]
+mod tests;
