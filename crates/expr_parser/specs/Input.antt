@@ -95,6 +95,10 @@ id_from (Some t) = λ i. Ok (id_of t, after i)
 unfoldable pub take_id : Parser Id
 take_id = λ i. id_from (next i) i
 
+-- goes on behind the next token, if there is one
+abbrev pub skip : Parser (Unit {0})
+skip = λ i. Ok (tt, after i)
+
 -- takes this sign, if it comes next
 unfoldable pub expect : List ℕ → Parser (Unit {0})
 expect text = λ i. if sees text i then Ok (tt, after i) else refuse i

@@ -8,20 +8,21 @@ use Rattle.sv_ast.specs.declared.expression.Sel.TheVariants as sel
 use Rattle.sv_ast.specs.declared.expression.Expr.{Expr}
 use Rattle.sv_ast.specs.declared.expression.Expr.TheVariants as e
 use Rattle.expr_parser.specs.Spelling.{is_identifier, is_function, is_unary, is_number, is_fill, binds}
-use Rattle.expr_parser.specs.Input.{Parser, Input, ◌>>=◌, ◌>>◌, ◌<$>◌, pure, refuse, peek, next, sees, take_id, expect, rise, enter, leave, turns}
+use Rattle.expr_parser.specs.Input.{Parser, Input, ◌>>=◌, ◌>>◌, ◌<$>◌, pure, refuse, peek, next, sees, skip, take_id, expect, rise, enter, leave, turns}
 
 -- how tightly the next token binds between two operands
 abbrev pub binds_next : Option Token → ℕ
 binds_next None = 0
 binds_next (Some t) = binds t
 
+-- whether the next token may stand before an operand
+abbrev pub is_unary_next : Option Token → Bool
+is_unary_next None = false
+is_unary_next (Some t) = is_unary t
+
 -- an opening bracket, which counts from itself on
 abbrev pub opening : List ℕ → Parser Id
 opening text = λ i. if sees text i then (rise >> take_id) i else refuse i
-
--- takes this sign if it comes next, and says whether it did
-abbrev pub ate : List ℕ → Parser Bool
-ate text = λ i. if sees text i then (take_id >> pure true) i else Ok (false, i)
 
 -- The number says what is read: operators that bind tighter than it, and `? :` too where it is 0.
 module _ (expr : ℕ → Parser Expr) where
@@ -36,9 +37,9 @@ module _ (expr : ℕ → Parser Expr) where
   -- behind `[` and the first expression: the select of the name
   abbrev pub select_from : Place → Expr → Parser Sel
   select_from place first = λ i.
-      if sees (codes ":") i then (take_id >> sel.Part place first <$> whole) i
-      else (if sees (codes "+:") i then (take_id >> sel.Up place first <$> whole) i
-      else (if sees (codes "-:") i then (take_id >> sel.Down place first <$> whole) i
+      if sees (codes ":") i then (skip >> sel.Part place first <$> whole) i
+      else (if sees (codes "+:") i then (skip >> sel.Up place first <$> whole) i
+      else (if sees (codes "-:") i then (skip >> sel.Down place first <$> whole) i
       else Ok (sel.Bit place first, i)))
 
   unfoldable pub select : Parser Sel
@@ -80,12 +81,12 @@ module _ (expr : ℕ → Parser Expr) where
 
   -- more expressions with commas before them, behind these
   unfoldable pub list_from : ℕ → List Expr → Parser (List Expr)
-  list_from zero found = refuse
+  list_from zero found = pure found
   list_from (suc n) found = λ i.
-      if sees (codes ",") i then (take_id >> whole >>= λ tree. list_from n (found ++ tree ∷ [])) i else Ok (found, i)
+      if sees (codes ",") i then (skip >> whole >>= λ tree. list_from n (found ++ tree ∷ [])) i else Ok (found, i)
 
-  abbrev pub more : Expr → Parser (List Expr)
-  more first = λ i. list_from (suc (turns i)) (first ∷ []) i
+  unfoldable pub more : Expr → Parser (List Expr)
+  more first = λ i. list_from (turns i) (first ∷ []) i
 
   -- behind the second `{` of a replication, from it on to the first `}`
   unfoldable pub repeated : Parser (List Expr)
@@ -125,10 +126,6 @@ module _ (expr : ℕ → Parser Expr) where
   unfoldable pub primary : Parser Expr
   primary = λ i. primary_by (next i) i
 
-  abbrev pub is_unary_next : Option Token → Bool
-  is_unary_next None = false
-  is_unary_next (Some t) = is_unary t
-
   unfoldable pub prefixed : Parser Expr
   prefixed = do
     rise
@@ -148,13 +145,13 @@ module _ (expr : ℕ → Parser Expr) where
     pure (e.Binary sign left right)
 
   unfoldable pub climb : ℕ → ℕ → Expr → Parser Expr
-  climb least zero left = refuse
+  climb least zero left = pure left
   climb least (suc n) left = λ i.
       if nat_le (binds_next (next i)) least then Ok (left, i)
       else (operation left (binds_next (next i)) >>= climb least n) i
 
   unfoldable pub operations : ℕ → Expr → Parser Expr
-  operations least left = λ i. climb least (suc (turns i)) left i
+  operations least left = λ i. climb least (turns i) left i
 
   -- behind a condition, from `?` on
   unfoldable pub chosen : Expr → Parser Expr

@@ -51,6 +51,7 @@ impl<F: Fn(Global, &mut Cursor<'_>, usize, u8) -> Result<Expr, ParseFault>> Gram
         }
     }
 
+    #[tactic(auto, unfolding(crate::specs::Reading::select))]
     fn select(&self, tokens: &mut Cursor<'_>) -> Result<Sel, ParseFault>
         requires { Nests self.now.depth (F.pre self.now.expr) (F.post self.now.expr) }
         ensures { Gives (spec.select (spec.expr self.now.depth) tokens.old) result tokens.new }
@@ -64,6 +65,7 @@ impl<F: Fn(Global, &mut Cursor<'_>, usize, u8) -> Result<Expr, ParseFault>> Gram
         Ok(found)
     }
 
+    #[tactic(auto, unfolding(crate::specs::Reading::selects))]
     fn selects(&self, tokens: &mut Cursor<'_>) -> Result<Items<Sel>, ParseFault>
         requires { Nests self.now.depth (F.pre self.now.expr) (F.post self.now.expr) }
         ensures { Gives (spec.selects (spec.expr self.now.depth) tokens.old) result tokens.new }
@@ -75,6 +77,7 @@ impl<F: Fn(Global, &mut Cursor<'_>, usize, u8) -> Result<Expr, ParseFault>> Gram
         Ok(found)
     }
 
+    #[tactic(auto, unfolding(crate::specs::Reading::read))]
     pub fn read(&self, tokens: &mut Cursor<'_>) -> Result<Expr, ParseFault>
         requires { Nests self.now.depth (F.pre self.now.expr) (F.post self.now.expr) }
         ensures { Gives (spec.read (spec.expr self.now.depth) tokens.old) result tokens.new }
@@ -83,6 +86,7 @@ impl<F: Fn(Global, &mut Cursor<'_>, usize, u8) -> Result<Expr, ParseFault>> Gram
         Ok(Expr::Read(name, self.selects(tokens)?))
     }
 
+    #[tactic(auto, unfolding(crate::specs::Reading::parenthesised))]
     pub fn parenthesised(&self, tokens: &mut Cursor<'_>) -> Result<Expr, ParseFault>
         requires { Nests self.now.depth (F.pre self.now.expr) (F.post self.now.expr) }
         ensures { Gives (spec.parenthesised (spec.expr self.now.depth) tokens.old) result tokens.new }
@@ -95,6 +99,7 @@ impl<F: Fn(Global, &mut Cursor<'_>, usize, u8) -> Result<Expr, ParseFault>> Gram
         Ok(tree)
     }
 
+    #[tactic(auto, unfolding(crate::specs::Reading::system))]
     pub fn system(&self, tokens: &mut Cursor<'_>) -> Result<Expr, ParseFault>
         requires { Nests self.now.depth (F.pre self.now.expr) (F.post self.now.expr) }
         ensures { Gives (spec.system (spec.expr self.now.depth) tokens.old) result tokens.new }
@@ -110,16 +115,17 @@ impl<F: Fn(Global, &mut Cursor<'_>, usize, u8) -> Result<Expr, ParseFault>> Gram
     {
         let mut found = Items::new(self.alloc);
         found.push(first)?;
-        'turn: for _turn in 0..=tokens.len() {
+        'turn: for _turn in 0..tokens.len() {
             if !tokens.sees(",") {
                 return Ok(found);
             }
             tokens.advance();
             found.push(self.whole(tokens)?)?;
         }
-        Err(tokens.refuse(self.alloc))
+        Ok(found)
     }
 
+    #[tactic(auto, unfolding(crate::specs::Reading::repeated))]
     fn repeated(&self, tokens: &mut Cursor<'_>) -> Result<Items<Expr>, ParseFault>
         requires { Nests self.now.depth (F.pre self.now.expr) (F.post self.now.expr) }
         ensures { Gives (spec.repeated (spec.expr self.now.depth) tokens.old) result tokens.new }
@@ -150,6 +156,7 @@ impl<F: Fn(Global, &mut Cursor<'_>, usize, u8) -> Result<Expr, ParseFault>> Gram
         }
     }
 
+    #[tactic(auto, unfolding(crate::specs::Reading::braced))]
     pub fn braced(&self, tokens: &mut Cursor<'_>) -> Result<Expr, ParseFault>
         requires { Nests self.now.depth (F.pre self.now.expr) (F.post self.now.expr) }
         ensures { Gives (spec.braced (spec.expr self.now.depth) tokens.old) result tokens.new }

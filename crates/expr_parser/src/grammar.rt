@@ -30,6 +30,7 @@ impl<F: Fn(Global, &mut Cursor<'_>, usize, u8) -> Result<Expr, ParseFault>> Gram
     }
 
     /// An expression of a rule, whose operators no longer count behind it.
+    #[tactic(auto, unfolding(crate::specs::Reading::whole))]
     pub fn whole(&self, tokens: &mut Cursor<'_>) -> Result<Expr, ParseFault>
         requires { Nests self.now.depth (F.pre self.now.expr) (F.post self.now.expr) }
         ensures { Gives (spec.whole (spec.expr self.now.depth) tokens.old) result tokens.new }

@@ -34,6 +34,7 @@ fn is_unary_next(tokens: &Cursor<'_>) -> bool
 }
 
 impl<F: Fn(Global, &mut Cursor<'_>, usize, u8) -> Result<Expr, ParseFault>> Grammar<F> {
+    #[tactic(auto, unfolding(crate::specs::Reading::primary))]
     fn primary(&self, tokens: &mut Cursor<'_>) -> Result<Expr, ParseFault>
         requires { Nests self.now.depth (F.pre self.now.expr) (F.post self.now.expr) }
         ensures { Gives (spec.primary (spec.expr self.now.depth) tokens.old) result tokens.new }
@@ -58,6 +59,7 @@ impl<F: Fn(Global, &mut Cursor<'_>, usize, u8) -> Result<Expr, ParseFault>> Gram
         }
     }
 
+    #[tactic(auto, unfolding(crate::specs::Reading::prefixed))]
     fn prefixed(&self, tokens: &mut Cursor<'_>) -> Result<Expr, ParseFault>
         requires { Nests self.now.depth (F.pre self.now.expr) (F.post self.now.expr) }
         ensures { Gives (spec.prefixed (spec.expr self.now.depth) tokens.old) result tokens.new }
@@ -68,6 +70,7 @@ impl<F: Fn(Global, &mut Cursor<'_>, usize, u8) -> Result<Expr, ParseFault>> Gram
         Ok(Expr::Unary(sign, Boxed::new(self.alloc, operand)?))
     }
 
+    #[tactic(auto, unfolding(crate::specs::Reading::operand))]
     fn operand(&self, tokens: &mut Cursor<'_>) -> Result<Expr, ParseFault>
         requires { Nests self.now.depth (F.pre self.now.expr) (F.post self.now.expr) }
         ensures { Gives (spec.operand (spec.expr self.now.depth) tokens.old) result tokens.new }
@@ -79,6 +82,7 @@ impl<F: Fn(Global, &mut Cursor<'_>, usize, u8) -> Result<Expr, ParseFault>> Gram
         }
     }
 
+    #[tactic(auto, unfolding(crate::specs::Reading::operation))]
     fn operation(
         &self,
         tokens: &mut Cursor<'_>,
@@ -104,16 +108,17 @@ impl<F: Fn(Global, &mut Cursor<'_>, usize, u8) -> Result<Expr, ParseFault>> Gram
         requires { Nests self.now.depth (F.pre self.now.expr) (F.post self.now.expr) }
         ensures { Gives (spec.operations (spec.expr self.now.depth) least left tokens.old) result tokens.new }
     {
-        'turn: for _turn in 0..=tokens.len() {
+        'turn: for _turn in 0..tokens.len() {
             let level = binds_next(tokens);
             if level <= least {
                 return Ok(left);
             }
             left = self.operation(tokens, left, level)?;
         }
-        Err(tokens.refuse(self.alloc))
+        Ok(left)
     }
 
+    #[tactic(auto, unfolding(crate::specs::Reading::chosen))]
     fn chosen(&self, tokens: &mut Cursor<'_>, test: Expr) -> Result<Expr, ParseFault>
         requires { Nests self.now.depth (F.pre self.now.expr) (F.post self.now.expr) }
         ensures { Gives (spec.chosen (spec.expr self.now.depth) test tokens.old) result tokens.new }
@@ -127,6 +132,7 @@ impl<F: Fn(Global, &mut Cursor<'_>, usize, u8) -> Result<Expr, ParseFault>> Gram
         Ok(Expr::Choice(question, test, first, second))
     }
 
+    #[tactic(auto, unfolding(crate::specs::Reading::level))]
     pub fn level(&self, tokens: &mut Cursor<'_>, least: u8) -> Result<Expr, ParseFault>
         requires { Nests self.now.depth (F.pre self.now.expr) (F.post self.now.expr) }
         ensures { Gives (spec.level (spec.expr self.now.depth) least tokens.old) result tokens.new }
