@@ -1,2 +1,5 @@
 mod Turns
 mod Last
+mod Machine
+mod Roles
+mod Complete

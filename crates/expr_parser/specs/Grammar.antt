@@ -97,8 +97,8 @@ abbrev mutual
 abbrev pub strength : Phrase → ℕ
 strength (choice p question q colon r) = 0
 strength (binary p sign q) = binds sign
-strength (unary sign p) = 12
-strength _ = 13
+strength (unary sign p) = 13
+strength _ = 14
 
 -- the sign between the two expressions of a select
 abbrev pub between_text : Between → List ℕ
@@ -125,7 +125,7 @@ abbrev mutual
   IsPhrase (repeat opens p inner ps done closes) =
       Is (codes "{") opens × IsPhrase p × Is (codes "{") inner × ArePhrases ps × Is (codes "}") done × Is (codes "}") closes
   IsPhrase (call function opens p closes) = (is_function function ≡ true) × Is (codes "(") opens × IsPhrase p × Is (codes ")") closes
-  IsPhrase (unary sign p) = (is_unary sign ≡ true) × IsPhrase p × (12 ≤ strength p)
+  IsPhrase (unary sign p) = (is_unary sign ≡ true) × IsPhrase p × (13 ≤ strength p)
   IsPhrase (binary p sign q) = (0 < binds sign) × IsPhrase p × (binds sign ≤ strength p) × IsPhrase q × (binds sign < strength q)
   IsPhrase (choice p question q colon r) =
       Is (codes "?") question × IsPhrase p × (0 < strength p) × IsPhrase q × Is (codes ":") colon × IsPhrase r
