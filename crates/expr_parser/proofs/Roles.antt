@@ -96,3 +96,20 @@ start_of-group t h = let b = same_text (codes "(") t h in let k = kind_of_sign_b
 pub start_of-brace : (t : Token) → is_this (codes "{") t ≡ true → start_of t ≡ a_brace
 unfolding start_of is_unary is_this
 start_of-brace t h = let b = same_text (codes "{") t h in let k = kind_of_sign_by t.kind b.0 in rw (k, b.1) refl
+
+-- ---- how tightly signs bind
+
+choice-small : (b : Bool) (m n : ℕ) → m ≤ 11 → n ≤ 11 → (if b then m else n) ≤ 11
+choice-small true m n h k = h
+choice-small false m n h k = k
+
+precedence-small : (text : List ℕ) → precedence text ≤ 11
+unfolding precedence
+precedence-small text =
+    choice-small _ 11 _ (omega arith) (choice-small _ 10 _ (omega arith) (choice-small _ 9 _ (omega arith) (choice-small _ 8 _ (omega arith) (
+    choice-small _ 7 _ (omega arith) (choice-small _ 6 _ (omega arith) (choice-small _ 5 _ (omega arith) (choice-small _ 4 _ (omega arith) (
+    choice-small _ 3 _ (omega arith) (choice-small _ 2 _ (omega arith) (choice-small _ 1 0 (omega arith) (omega arith)))))))))))
+
+pub binds-small : (t : Token) → binds t ≤ 11
+unfolding binds
+binds-small t = choice-small (is_sign t.kind) _ _ (precedence-small t.text) (omega arith)
