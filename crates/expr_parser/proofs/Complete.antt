@@ -6,7 +6,7 @@ use Rattle.sv_ast.specs.declared.expression.Sel.TheVariants as sel
 use Rattle.sv_ast.specs.declared.expression.Expr.{Expr}
 use Rattle.sv_ast.specs.declared.expression.Expr.TheVariants as e
 use Rattle.expr_parser.specs.Spelling.{is_identifier, is_this, precedence, binds}
-use Rattle.expr_parser.specs.Grammar.{Between, down_to, up_from, down_from, Phrase, number, fill, name, selected, ranged, group, concat, repeat, call, unary, binary, choice, Phrases, only, more, tokens_of, all_tokens_of, tree_of, trees_of, id_of, range_of, strength, Is, between_text, IsPhrase, ArePhrases}
+use Rattle.expr_parser.specs.Grammar.{Between, down_to, up_from, down_from, Phrase, number, fill, name, selected, ranged, group, concat, repeat, call, unary, binary, choice, Phrases, only, more, tokens_of, all_tokens_of, tree_of, trees_of, id_of, range_of, strength, Is, between_text, IsPhrase, ArePhrases, Reads}
 use Rattle.expr_parser.proofs.Machine.{Frame, under_sign, behind_left, in_first, in_second, in_group, in_call, in_select, in_range, in_braces, in_parts, State, wants, wants_argument, has_name, has, wants_brace, failed, reduce, Role, operator, question, colon, plus_colon, minus_colon, comma, close_group, open_select, close_select, open_brace, close_brace, no_role, role_of, closed, closed_select, went_on, went_on_name, begun, step, steps, operand_of, start_of}
 use Rattle.expr_parser.proofs.Roles.{role_from, role_of-binary, start_of-name, start_of-function, start_of-sign, start_of-number, start_of-fill, start_of-group, start_of-brace, binds-small}
 
@@ -439,3 +439,8 @@ none_begins run fails p h tail whole =
     let ended = ends_with p h in
     let stuck : steps (wants []) (tokens_of p) ≡ failed = ap (steps (wants [])) whole ∙ steps-append (wants []) run tail ∙ ap (λ s. steps s tail) fails ∙ steps-failed tail in
     none_some (ended.operand, ended.frames) (sym (ap operand_of stuck) ∙ ended.is)
+
+-- tokens are one expression at most
+pub one_tree_lem : (tokens : List Token) (a b : Expr) → Reads tokens a → Reads tokens b → a ≡ b
+one_tree_lem tokens a b x y =
+    sym x.tree_is ∙ same_tree x.phrase y.phrase x.in_grammar y.in_grammar (x.tokens_are ∙ sym y.tokens_are) ∙ y.tree_is

@@ -6,3 +6,4 @@ pub mod Input
 pub mod Reading
 pub mod Cursor
 pub mod Nests
+pub mod Spelled

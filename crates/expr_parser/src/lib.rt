@@ -5,11 +5,13 @@ mod bracket;
 mod cursor;
 mod fault;
 mod grammar;
+mod law;
 mod operation;
 mod parser;
 mod spelling;
 
 pub use fault::ParseFault;
+pub use law::one_tree;
 pub use parser::parse_expr;
 
 #[cfg(test)]

@@ -1,4 +1,5 @@
-ghost use Rattle.std.specs.Prelude.{◌≤◌, length};
+ghost use Rattle.std.specs.Prelude.{◌≤◌, length, IfOk, IfErr};
+ghost use Rattle.expr_parser.specs.Outcome.{IsRead, IsFaultOf};
 
 use crate::cursor::{Cursor, last_place};
 use crate::fault::ParseFault;
@@ -18,6 +19,8 @@ pub fn parse_expr(
 ) -> Result<(Expr, usize), ParseFault>
     requires place { at ≤ length tokens.now.items }
     requires nesting { depth ≤ 256 }
+    ensures read { IfOk result (λ r. IsRead tokens.now.items at depth r.0 r.1) }
+    ensures refused { IfErr result (IsFaultOf tokens.now.items at depth) }
 {
     let last = last_place(tokens.as_slice());
     let mut cursor = Cursor::new(&tokens.as_slice()[at..], depth, last);
