@@ -1,14 +1,15 @@
 -- The machine reads each phrase of the grammar, whatever stands around it.
 use Rattle.std.proofs.Common.{◌≡◌, ◌∙◌, ◌⊎◌, ℕ, zero, suc, ◌+◌, ◌<◌, ◌≤◌, ◌==◌, Bool, true, false, nat_le, List, [], ◌∷◌, ◌++◌, Option, Some, None, refl, sym, ap, subst, arith, codes, if◌then◌else◌, append_assoc}
-use Rattle.std.proofs.lemmas.Bool.{le-leb, lt-leb, ne_eqb, eq-eqb}
+use Rattle.std.proofs.lemmas.Bool.{le-leb, lt-leb, ne_eqb, eq-eqb, lt-ltb}
+use Rattle.std.specs.Str.{bytes_eq}
 use Rattle.sv_lexer.specs.declared.token.Token.{Token}
 use Rattle.sv_ast.specs.declared.expression.Sel.TheVariants as sel
 use Rattle.sv_ast.specs.declared.expression.Expr.{Expr}
 use Rattle.sv_ast.specs.declared.expression.Expr.TheVariants as e
 use Rattle.expr_parser.specs.Spelling.{is_identifier, is_this, precedence, binds}
 use Rattle.expr_parser.specs.Grammar.{Between, down_to, up_from, down_from, Phrase, number, fill, name, selected, ranged, group, concat, repeat, call, unary, binary, choice, Phrases, only, more, tokens_of, all_tokens_of, tree_of, trees_of, id_of, range_of, strength, Is, between_text, IsPhrase, ArePhrases, Reads}
-use Rattle.expr_parser.proofs.Machine.{Frame, under_sign, behind_left, in_first, in_second, in_group, in_call, in_select, in_range, in_braces, in_parts, State, wants, wants_argument, has_name, has, wants_brace, failed, reduce, Role, operator, question, colon, plus_colon, minus_colon, comma, close_group, open_select, close_select, open_brace, close_brace, no_role, role_of, closed, closed_select, went_on, went_on_name, begun, step, steps, operand_of, start_of}
-use Rattle.expr_parser.proofs.Roles.{role_from, role_of-binary, start_of-name, start_of-function, start_of-sign, start_of-number, start_of-fill, start_of-group, start_of-brace, binds-small}
+use Rattle.expr_parser.proofs.Machine.{Frame, under_sign, behind_left, in_first, in_second, in_group, in_call, in_select, in_range, in_braces, in_parts, State, wants, wants_argument, has_name, has, wants_brace, failed, reduce, closed, went_on, begun, step, steps, operand_of, start_of}
+use Rattle.expr_parser.proofs.Roles.{not_this, binds-this, binds-not_this, start_of-name, start_of-function, start_of-sign, start_of-number, start_of-fill, start_of-group, start_of-brace, binds-small}
 
 -- ---- many steps
 
@@ -62,71 +63,37 @@ some_same a b h = cc
 none_some : {A : Type 0} (a : A) → None ≡ Some a → ⊥
 none_some a h = cc
 
--- a name goes on as an operand does, but with a select
-name-other : (r : Role) (t id : Token) (fs : List Frame) → (r ≡ open_select → ⊥) → went_on_name r t id fs ≡ went_on r t (e.Read (id_of id) []) fs
-name-other (operator b) t id fs other = refl
-name-other question t id fs other = refl
-name-other colon t id fs other = refl
-name-other plus_colon t id fs other = refl
-name-other minus_colon t id fs other = refl
-name-other comma t id fs other = refl
-name-other close_group t id fs other = refl
-name-other open_select t id fs other = absurd (other refl)
-name-other close_select t id fs other = refl
-name-other open_brace t id fs other = refl
-name-other close_brace t id fs other = refl
-name-other no_role t id fs other = refl
+-- behind an operand a token that opens no select goes on as behind every operand
+pub step-operand : (t : Token) → is_this (codes "[") t ≡ false → (state : State) (x : Expr) (fs : List Frame)
+    → operand_of state ≡ Some (x, fs) → step t state ≡ went_on t x fs
+step-operand t other (has y gs) x fs is = ap (λ p. went_on t p.0 p.1) (some_same (y, gs) (x, fs) is)
+step-operand t other (has_name id gs) x fs is =
+    ap (λ (k : Bool). if k then wants (in_select id t ∷ gs) else went_on t (e.Read (id_of id) []) gs) other
+        ∙ ap (λ p. went_on t p.0 p.1) (some_same (e.Read (id_of id) [], gs) (x, fs) is)
+step-operand t other (wants gs) x fs is = absurd cc
+step-operand t other (wants_argument f gs) x fs is = absurd cc
+step-operand t other (wants_brace y gs) x fs is = absurd cc
+step-operand t other failed x fs is = absurd cc
 
--- behind an operand a token that opens no select goes on by its role
-pub step-operand : (t : Token) (r : Role) → role_of t ≡ r → (r ≡ open_select → ⊥) → (state : State) (x : Expr) (fs : List Frame)
-    → operand_of state ≡ Some (x, fs) → step t state ≡ went_on r t x fs
-step-operand t r h other (has y gs) x fs is =
-    ap (λ k. went_on k t y gs) h ∙ ap (λ p. went_on r t p.0 p.1) (some_same (y, gs) (x, fs) is)
-step-operand t r h other (has_name id gs) x fs is =
-    ap (λ k. went_on_name k t id gs) h ∙ name-other r t id gs other ∙ ap (λ p. went_on r t p.0 p.1) (some_same (e.Read (id_of id) [], gs) (x, fs) is)
-step-operand t r h other (wants gs) x fs is = absurd cc
-step-operand t r h other (wants_argument f gs) x fs is = absurd cc
-step-operand t r h other (wants_brace y gs) x fs is = absurd cc
-step-operand t r h other failed x fs is = absurd cc
+-- what stands behind whole expressions alone
+pub record IsEnd (t : Token) : Type 0 where
+  pub binds_none : binds t ≡ 0
+  pub no_question : is_this (codes "?") t ≡ false
+  pub no_select : is_this (codes "[") t ≡ false
 
--- what ends a whole expression
-abbrev pub IsEnd : Role → Type 0
-IsEnd (operator b) = ⊥
-IsEnd question = ⊥
-IsEnd open_select = ⊥
-IsEnd colon = Unit {0}
-IsEnd plus_colon = Unit {0}
-IsEnd minus_colon = Unit {0}
-IsEnd comma = Unit {0}
-IsEnd close_group = Unit {0}
-IsEnd close_select = Unit {0}
-IsEnd open_brace = Unit {0}
-IsEnd close_brace = Unit {0}
-IsEnd no_role = Unit {0}
-
-went_on-end : (r : Role) (t : Token) (x : Expr) (fs : List Frame) → IsEnd r → went_on r t x fs ≡ closed r (reduce 0 fs x).0 (reduce 0 fs x).1
-went_on-end (operator b) t x fs h = absurd h
-went_on-end question t x fs h = absurd h
-went_on-end open_select t x fs h = absurd h
-went_on-end colon t x fs h = refl
-went_on-end plus_colon t x fs h = refl
-went_on-end minus_colon t x fs h = refl
-went_on-end comma t x fs h = refl
-went_on-end close_group t x fs h = refl
-went_on-end close_select t x fs h = refl
-went_on-end open_brace t x fs h = refl
-went_on-end close_brace t x fs h = refl
-went_on-end no_role t x fs h = refl
-
-end-other : (r : Role) → IsEnd r → r ≡ open_select → ⊥
-end-other r h same = let P : Role → Type 0 = IsEnd in subst P same h
+pub went_on-end : (t : Token) (x : Expr) (fs : List Frame) → IsEnd t → went_on t x fs ≡ closed t (reduce 0 fs x).0 (reduce 0 fs x).1
+went_on-end t x fs h = rw (h.binds_none, h.no_question) refl
 
 -- what ends a whole expression whose tree stands in these frames
-pub step-end : (t : Token) (r : Role) → role_of t ≡ r → IsEnd r → (fs : List Frame) (tree : Expr) (s : ℕ) (state : State) → Ended fs tree s state
-    → step t state ≡ closed r (reduce 0 fs tree).0 (reduce 0 fs tree).1
-step-end t r h ends fs tree s state ended =
-    step-operand t r h (end-other r ends) state ended.operand ended.frames ended.is ∙ went_on-end r t ended.operand ended.frames ends
-        ∙ ap (λ p. closed r p.0 p.1) (ended.folds 0 (omega arith))
+pub step-end : (t : Token) → IsEnd t → (fs : List Frame) (tree : Expr) (s : ℕ) (state : State) → Ended fs tree s state
+    → step t state ≡ closed t (reduce 0 fs tree).0 (reduce 0 fs tree).1
+step-end t ends fs tree s state ended =
+    step-operand t ends.no_select state ended.operand ended.frames ended.is ∙ went_on-end t ended.operand ended.frames ends
+        ∙ ap (λ p. closed t p.0 p.1) (ended.folds 0 (omega arith))
+
+is_end : (text : List ℕ) (t : Token) → Is text t → precedence text ≡ 0 → bytes_eq text (codes "?") ≡ false → bytes_eq text (codes "[") ≡ false → IsEnd t
+is_end text t h none a b =
+    record { binds_none = binds-this text t h ∙ none; no_question = not_this text (codes "?") t h a; no_select = not_this text (codes "[") t h b }
 
 -- an operand that is finished
 pub ended_at : (fs : List Frame) (x : Expr) (s : ℕ) (state : State) → state ≡ has x fs → Ended fs x s state
@@ -149,81 +116,77 @@ read-name t h fs holds =
     record { operand = e.Read (id_of t) []; frames = fs; is = ap (λ k. operand_of (begun k t fs)) (start_of-name t h); folds = λ b le. refl }
 
 -- one expression in brackets, whose frame is f
-in-brackets : (f : Frame) (fs : List Frame) (p : Phrase) → IsRead p → Holds (f ∷ fs) (strength p) → (tree : Expr) → reduce 0 (f ∷ fs) (tree_of p) ≡ (tree_of p, f ∷ fs)
-    → (c : Token) (r : Role) → role_of c ≡ r → IsEnd r → step c (steps (wants (f ∷ fs)) (tokens_of p)) ≡ closed r (tree_of p) (f ∷ fs)
-in-brackets f fs p read holds tree rests c r h ends =
-    step-end c r h ends (f ∷ fs) (tree_of p) (strength p) _ (read (f ∷ fs) holds) ∙ ap (λ x. closed r x.0 x.1) rests
+in-brackets : (f : Frame) (fs : List Frame) (p : Phrase) → IsRead p → Holds (f ∷ fs) (strength p) → reduce 0 (f ∷ fs) (tree_of p) ≡ (tree_of p, f ∷ fs)
+    → (c : Token) → IsEnd c → step c (steps (wants (f ∷ fs)) (tokens_of p)) ≡ closed c (tree_of p) (f ∷ fs)
+in-brackets f fs p read holds rests c ends =
+    step-end c ends (f ∷ fs) (tree_of p) (strength p) _ (read (f ∷ fs) holds) ∙ ap (λ x. closed c x.0 x.1) rests
 
-role-close_group : (c : Token) → Is (codes ")") c → role_of c ≡ close_group
+end-group : (t : Token) → Is (codes ")") t → IsEnd t
 unfolding precedence
-role-close_group c h = role_from (codes ")") c h
+end-group t h = is_end (codes ")") t h refl refl refl
 
-role-close_select : (c : Token) → Is (codes "]") c → role_of c ≡ close_select
+end-select : (t : Token) → Is (codes "]") t → IsEnd t
 unfolding precedence
-role-close_select c h = role_from (codes "]") c h
+end-select t h = is_end (codes "]") t h refl refl refl
 
-role-open_select : (c : Token) → Is (codes "[") c → role_of c ≡ open_select
+end-brace : (t : Token) → Is (codes "}") t → IsEnd t
 unfolding precedence
-role-open_select c h = role_from (codes "[") c h
+end-brace t h = is_end (codes "}") t h refl refl refl
 
-role-close_brace : (c : Token) → Is (codes "}") c → role_of c ≡ close_brace
+end-open_brace : (t : Token) → Is (codes "{") t → IsEnd t
 unfolding precedence
-role-close_brace c h = role_from (codes "}") c h
+end-open_brace t h = is_end (codes "{") t h refl refl refl
 
-role-open_brace : (c : Token) → Is (codes "{") c → role_of c ≡ open_brace
+end-comma : (t : Token) → Is (codes ",") t → IsEnd t
 unfolding precedence
-role-open_brace c h = role_from (codes "{") c h
+end-comma t h = is_end (codes ",") t h refl refl refl
 
-role-comma : (c : Token) → Is (codes ",") c → role_of c ≡ comma
+end-colon : (t : Token) → Is (codes ":") t → IsEnd t
 unfolding precedence
-role-comma c h = role_from (codes ",") c h
+end-colon t h = is_end (codes ":") t h refl refl refl
 
-role-question : (c : Token) → Is (codes "?") c → role_of c ≡ question
+end-up : (t : Token) → Is (codes "+:") t → IsEnd t
 unfolding precedence
-role-question c h = role_from (codes "?") c h
+end-up t h = is_end (codes "+:") t h refl refl refl
 
-role-colon : (c : Token) → Is (codes ":") c → role_of c ≡ colon
+end-down : (t : Token) → Is (codes "-:") t → IsEnd t
 unfolding precedence
-role-colon c h = role_from (codes ":") c h
-
-role-up : (c : Token) → Is (codes "+:") c → role_of c ≡ plus_colon
-unfolding precedence
-role-up c h = role_from (codes "+:") c h
-
-role-down : (c : Token) → Is (codes "-:") c → role_of c ≡ minus_colon
-unfolding precedence
-role-down c h = role_from (codes "-:") c h
+end-down t h = is_end (codes "-:") t h refl refl refl
 
 read-group : (o : Token) (p : Phrase) (c : Token) → IsRead p → IsPhrase (group o p c) → IsRead (group o p c)
 read-group o p c read h fs holds =
     ended_at fs _ _ _ (steps-append (step o (wants fs)) (tokens_of p) (c ∷ [])
         ∙ ap (λ k. step c (steps (begun k o fs) (tokens_of p))) (start_of-group o h.0)
-        ∙ in-brackets in_group fs p read tt (tree_of p) refl c close_group (role-close_group c h.2) tt)
+        ∙ in-brackets in_group fs p read tt refl c (end-group c h.2)
+        ∙ rw h.2 refl)
 
 read-call : (f o : Token) (p : Phrase) (c : Token) → IsRead p → IsPhrase (call f o p c) → IsRead (call f o p c)
 read-call f o p c read h fs holds =
     ended_at fs _ _ _ (steps-append (step o (step f (wants fs))) (tokens_of p) (c ∷ [])
         ∙ ap (λ k. step c (steps (step o (begun k f fs)) (tokens_of p))) (start_of-function f h.0)
         ∙ ap (λ (k : Bool). step c (steps (if k then wants (in_call f ∷ fs) else failed) (tokens_of p))) h.1
-        ∙ in-brackets (in_call f) fs p read tt (tree_of p) refl c close_group (role-close_group c h.3) tt)
+        ∙ in-brackets (in_call f) fs p read tt refl c (end-group c h.3)
+        ∙ rw h.3 refl)
 
 -- a name and its `[`
 opened-select : (id o : Token) (fs : List Frame) → is_identifier id ≡ true → Is (codes "[") o → step o (step id (wants fs)) ≡ wants (in_select id o ∷ fs)
 opened-select id o fs h k =
-    ap (λ j. step o (begun j id fs)) (start_of-name id h) ∙ ap (λ j. went_on_name j o id fs) (role-open_select o k)
+    ap (λ j. step o (begun j id fs)) (start_of-name id h) ∙ rw k refl
 
 read-selected : (id o : Token) (p : Phrase) (c : Token) → IsRead p → IsPhrase (selected id o p c) → IsRead (selected id o p c)
 read-selected id o p c read h fs holds =
     ended_at fs _ _ _ (steps-append (step o (step id (wants fs))) (tokens_of p) (c ∷ [])
         ∙ ap (λ k. step c (steps k (tokens_of p))) (opened-select id o fs h.0 h.1)
-        ∙ in-brackets (in_select id o) fs p read tt (tree_of p) refl c close_select (role-close_select c h.3) tt)
+        ∙ in-brackets (in_select id o) fs p read tt refl c (end-select c h.3)
+        ∙ rw (not_this (codes "]") (codes ":") c h.3 refl, not_this (codes "]") (codes "+:") c h.3 refl, not_this (codes "]") (codes "-:") c h.3 refl, h.3) refl)
 
 -- behind the first expression of a select
 between-step : (w : Between) (id o : Token) (fs : List Frame) (p : Phrase) → IsRead p → (between : Token) → Is (between_text w) between
     → step between (steps (wants (in_select id o ∷ fs)) (tokens_of p)) ≡ wants (in_range w id o (tree_of p) ∷ fs)
-between-step down_to id o fs p read t h = in-brackets (in_select id o) fs p read tt (tree_of p) refl t colon (role-colon t h) tt
-between-step up_from id o fs p read t h = in-brackets (in_select id o) fs p read tt (tree_of p) refl t plus_colon (role-up t h) tt
-between-step down_from id o fs p read t h = in-brackets (in_select id o) fs p read tt (tree_of p) refl t minus_colon (role-down t h) tt
+between-step down_to id o fs p read t h = in-brackets (in_select id o) fs p read tt refl t (end-colon t h) ∙ rw h refl
+between-step up_from id o fs p read t h = in-brackets (in_select id o) fs p read tt refl t (end-up t h) ∙ rw (not_this (codes "+:") (codes ":") t h refl, h) refl
+between-step down_from id o fs p read t h = in-brackets (in_select id o) fs p read tt refl t (end-down t h)
+    ∙ rw (not_this (codes "-:") (codes ":") t h refl, not_this (codes "-:") (codes "+:") t h refl, h) refl
 
 read-ranged : (w : Between) (id o : Token) (p : Phrase) (between : Token) (q : Phrase) (c : Token) → IsRead p → IsRead q
     → IsPhrase (ranged w id o p between q c) → IsRead (ranged w id o p between q c)
@@ -232,7 +195,7 @@ read-ranged w id o p between q c read_p read_q h fs holds =
         ∙ ap (step c) (steps-append (step o (step id (wants fs))) (tokens_of p) (between ∷ tokens_of q))
         ∙ ap (λ k. step c (steps (step between (steps k (tokens_of p))) (tokens_of q))) (opened-select id o fs h.0 h.1)
         ∙ ap (λ k. step c (steps k (tokens_of q))) (between-step w id o fs p read_p between h.3)
-        ∙ in-brackets (in_range w id o (tree_of p)) fs q read_q tt (tree_of q) refl c close_select (role-close_select c h.5) tt)
+        ∙ in-brackets (in_range w id o (tree_of p)) fs q read_q tt refl c (end-select c h.5) ∙ rw h.5 refl)
 
 -- ---- operators
 
@@ -260,18 +223,29 @@ rests (in_range w id o a ∷ fs) b x some small s le h = refl
 rests (in_braces o ys ∷ fs) b x some small s le h = refl
 rests (in_parts o n ys ∷ fs) b x some small s le h = refl
 
-operator-other : (b : ℕ) → operator b ≡ open_select → ⊥
-operator-other b h = cc
+select-none : precedence (codes "[") ≡ 0
+unfolding precedence
+select-none = refl
 
-question-other : question ≡ open_select → ⊥
-question-other h = cc
+question-none : precedence (codes "?") ≡ 0
+unfolding precedence
+question-none = refl
+
+went_on-operator : (t : Token) (x : Expr) (fs : List Frame) → 0 < binds t
+    → went_on t x fs ≡ wants (behind_left (reduce (binds t) fs x).0 t ∷ (reduce (binds t) fs x).1)
+went_on-operator t x fs some = rw (lt-ltb 0 (binds t) some) refl
+
+went_on-question : (t : Token) (x : Expr) (fs : List Frame) → Is (codes "?") t
+    → went_on t x fs ≡ wants (in_first (reduce 1 fs x).0 t ∷ (reduce 1 fs x).1)
+went_on-question t x fs h = rw (binds-this (codes "?") t h ∙ question-none, h) refl
 
 -- the left operand and the sign
 left-step : (p : Phrase) (sign : Token) (fs : List Frame) → IsRead p → 0 < binds sign → binds sign ≤ 11 → binds sign ≤ strength p → Holds fs (binds sign)
     → step sign (steps (wants fs) (tokens_of p)) ≡ wants (behind_left (tree_of p) sign ∷ fs)
 left-step p sign fs read some small le holds =
     let left = read fs (Holds-more fs _ _ le holds) in
-    step-operand sign (operator (binds sign)) (role_of-binary sign some) (operator-other _) _ left.operand left.frames left.is
+    step-operand sign (binds-not_this (codes "[") sign some select-none) _ left.operand left.frames left.is
+        ∙ went_on-operator sign left.operand left.frames some
         ∙ ap (λ x. wants (behind_left x.0 sign ∷ x.1)) (left.folds (binds sign) le ∙ rests fs (binds sign) (tree_of p) some (omega arith) (binds sign) (omega arith) holds)
 
 read-binary : (p : Phrase) (sign : Token) (q : Phrase) → IsRead p → IsRead q → IsPhrase (binary p sign q) → IsRead (binary p sign q)
@@ -290,7 +264,8 @@ first-step : (p : Phrase) (t : Token) (fs : List Frame) → IsRead p → Is (cod
     → step t (steps (wants fs) (tokens_of p)) ≡ wants (in_first (tree_of p) t ∷ fs)
 first-step p t fs read h some holds =
     let test = read fs (Holds-more fs _ _ (omega arith) holds) in
-    step-operand t question (role-question t h) question-other _ test.operand test.frames test.is
+    step-operand t (not_this (codes "?") (codes "[") t h refl) _ test.operand test.frames test.is
+        ∙ went_on-question t test.operand test.frames h
         ∙ ap (λ x. wants (in_first x.0 t ∷ x.1)) (test.folds 1 (omega arith) ∙ rests fs 1 (tree_of p) (omega arith) (omega arith) 0 (omega arith) holds)
 
 read-choice : (p : Phrase) (t : Token) (q : Phrase) (u : Token) (r : Phrase) → IsRead p → IsRead q → IsRead r → IsPhrase (choice p t q u r) → IsRead (choice p t q u r)
@@ -303,7 +278,7 @@ read-choice p t q u r read_p read_q read_r h fs holds =
           ∙ ap (λ k. operand_of (steps (step u k) (tokens_of r))) (steps-append (wants fs) (tokens_of p) (t ∷ tokens_of q))
           ∙ ap (λ k. operand_of (steps (step u (steps k (tokens_of q))) (tokens_of r))) (first-step p t fs read_p h.0 h.2 holds)
           ∙ ap (λ k. operand_of (steps k (tokens_of r)))
-              (in-brackets (in_first (tree_of p) t) fs q read_q tt (tree_of q) refl u colon (role-colon u h.4) tt)
+              (in-brackets (in_first (tree_of p) t) fs q read_q tt refl u (end-colon u h.4) ∙ rw h.4 refl)
           ∙ last.is;
       folds = λ b le. let none : b ≡ 0 = omega arith in last.folds b (omega arith) ∙ rw (eq-eqb b 0 none) refl;
     }
@@ -314,7 +289,7 @@ read-choice p t q u r read_p read_q read_r h fs holds =
 pub record IsListFrame (frame : List Expr → Frame) : Type 0 where
   pub holds : (ys : List Expr) (fs : List Frame) (s : ℕ) → Holds (frame ys ∷ fs) s
   pub rests : (ys : List Expr) (fs : List Frame) (x : Expr) → reduce 0 (frame ys ∷ fs) x ≡ (x, frame ys ∷ fs)
-  pub goes_on : (ys : List Expr) (fs : List Frame) (x : Expr) → closed comma x (frame ys ∷ fs) ≡ wants (frame (ys ++ x ∷ []) ∷ fs)
+  pub goes_on : (c : Token) → Is (codes ",") c → (ys : List Expr) (fs : List Frame) (x : Expr) → closed c x (frame ys ∷ fs) ≡ wants (frame (ys ++ x ∷ []) ∷ fs)
 
 -- the state has the last of all these expressions in that bracket, with the others before it
 pub record ListEnded (frame : List Expr → Frame) (fs : List Frame) (all : List Expr) (state : State) : Type 0 where
@@ -347,8 +322,8 @@ read-more : (p : Phrase) (c : Token) (ps : Phrases) → IsRead p → IsListRead 
 read-more p c ps read read_list h frame is_frame ys fs =
     let ended = read (frame ys ∷ fs) (is_frame.holds ys fs (strength p)) in
     let others = read_list frame is_frame (ys ++ tree_of p ∷ []) fs in
-    let stepped = step-end c comma (role-comma c h) tt (frame ys ∷ fs) (tree_of p) (strength p) _ ended
-          ∙ ap (λ x. closed comma x.0 x.1) (is_frame.rests ys fs (tree_of p)) ∙ is_frame.goes_on ys fs (tree_of p) in
+    let stepped = step-end c (end-comma c h) (frame ys ∷ fs) (tree_of p) (strength p) _ ended
+          ∙ ap (λ x. closed c x.0 x.1) (is_frame.rests ys fs (tree_of p)) ∙ is_frame.goes_on c h ys fs (tree_of p) in
     record {
       operand = others.operand;
       frames = others.frames;
@@ -361,36 +336,39 @@ read-more p c ps read read_list h frame is_frame ys fs =
     }
 
 -- the token behind a list
-list-end : (t : Token) (r : Role) → role_of t ≡ r → IsEnd r → (frame : List Expr → Frame) (fs : List Frame) (all : List Expr) (state : State)
-    → (ended : ListEnded frame fs all state) → step t state ≡ closed r ended.last (frame ended.before ∷ fs)
-list-end t r h ends frame fs all state ended =
-    step-operand t r h (end-other r ends) state ended.operand ended.frames ended.is ∙ went_on-end r t ended.operand ended.frames ends
-        ∙ ap (λ p. closed r p.0 p.1) ended.folds
+list-end : (t : Token) → IsEnd t → (frame : List Expr → Frame) (fs : List Frame) (all : List Expr) (state : State)
+    → (ended : ListEnded frame fs all state) → step t state ≡ closed t ended.last (frame ended.before ∷ fs)
+list-end t ends frame fs all state ended =
+    step-operand t ends.no_select state ended.operand ended.frames ended.is ∙ went_on-end t ended.operand ended.frames ends
+        ∙ ap (λ p. closed t p.0 p.1) ended.folds
 
 braces-frame : (o : Token) → IsListFrame (in_braces o)
-braces-frame o = record { holds = λ ys fs s. tt; rests = λ ys fs x. refl; goes_on = λ ys fs x. refl }
+braces-frame o = record { holds = λ ys fs s. tt; rests = λ ys fs x. refl; goes_on = λ c h ys fs x. rw (not_this (codes ",") (codes "{") c h refl, h) refl }
 
 parts-frame : (o : Token) (n : Expr) → IsListFrame (in_parts o n)
-parts-frame o n = record { holds = λ ys fs s. tt; rests = λ ys fs x. refl; goes_on = λ ys fs x. refl }
+parts-frame o n = record { holds = λ ys fs s. tt; rests = λ ys fs x. refl; goes_on = λ c h ys fs x. rw h refl }
 
 read-concat : (o : Token) (ps : Phrases) (c : Token) → IsListRead ps → IsPhrase (concat o ps c) → IsRead (concat o ps c)
 read-concat o ps c read h fs holds =
     let ended = read (in_braces o) (braces-frame o) [] fs in
     ended_at fs _ _ _ (steps-append (step o (wants fs)) (all_tokens_of ps) (c ∷ [])
         ∙ ap (λ k. step c (steps (begun k o fs) (all_tokens_of ps))) (start_of-brace o h.0)
-        ∙ list-end c close_brace (role-close_brace c h.2) tt (in_braces o) fs (trees_of ps) _ ended
+        ∙ list-end c (end-brace c h.2) (in_braces o) fs (trees_of ps) _ ended
+        ∙ rw (not_this (codes "}") (codes "{") c h.2 refl, not_this (codes "}") (codes ",") c h.2 refl, h.2) refl
         ∙ ap (λ all. has (e.Concat o.place all) fs) ended.all_are)
 
 read-repeat : (o : Token) (p : Phrase) (i : Token) (ps : Phrases) (d c : Token) → IsRead p → IsListRead ps
     → IsPhrase (repeat o p i ps d c) → IsRead (repeat o p i ps d c)
 read-repeat o p i ps d c read read_list h fs holds =
     let ended = read_list (in_parts o (tree_of p)) (parts-frame o (tree_of p)) [] fs in
+    let done : step d (steps (wants (in_parts o (tree_of p) [] ∷ fs)) (all_tokens_of ps)) ≡ wants_brace (e.Repeat o.place (tree_of p) (ended.before ++ ended.last ∷ [])) fs =
+        list-end d (end-brace d h.4) (in_parts o (tree_of p)) fs (trees_of ps) _ ended ∙ rw (not_this (codes "}") (codes ",") d h.4 refl, h.4) refl in
     ended_at fs _ _ _ (steps-append (wants fs) (o ∷ tokens_of p ++ i ∷ all_tokens_of ps) (d ∷ c ∷ [])
         ∙ ap (λ k. step c (step d k)) (steps-append (step o (wants fs)) (tokens_of p) (i ∷ all_tokens_of ps))
         ∙ ap (λ k. step c (step d (steps (step i (steps (begun k o fs) (tokens_of p))) (all_tokens_of ps)))) (start_of-brace o h.0)
         ∙ ap (λ k. step c (step d (steps k (all_tokens_of ps))))
-            (in-brackets (in_braces o []) fs p read tt (tree_of p) refl i open_brace (role-open_brace i h.2) tt)
-        ∙ ap (step c) (list-end d close_brace (role-close_brace d h.4) tt (in_parts o (tree_of p)) fs (trees_of ps) _ ended)
+            (in-brackets (in_braces o []) fs p read tt refl i (end-open_brace i h.2) ∙ rw h.2 refl)
+        ∙ ap (step c) done
         ∙ ap (λ (k : Bool). if k then has (e.Repeat o.place (tree_of p) (ended.before ++ ended.last ∷ [])) fs else failed) h.5
         ∙ ap (λ all. has (e.Repeat o.place (tree_of p) all) fs) ended.all_are)
 

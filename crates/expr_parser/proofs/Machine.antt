@@ -50,39 +50,6 @@ reduce b (in_range w id o a ∷ fs) x = (x, in_range w id o a ∷ fs)
 reduce b (in_braces o ys ∷ fs) x = (x, in_braces o ys ∷ fs)
 reduce b (in_parts o n ys ∷ fs) x = (x, in_parts o n ys ∷ fs)
 
--- what a sign is behind an operand
-pub data Role : Type 0 where
-  operator : ℕ → Role
-  question : Role
-  colon : Role
-  plus_colon : Role
-  minus_colon : Role
-  comma : Role
-  close_group : Role
-  open_select : Role
-  close_select : Role
-  open_brace : Role
-  close_brace : Role
-  no_role : Role
-
-abbrev pub role_of_sign : ℕ → List ℕ → Role
-role_of_sign b text =
-    if nat_lt 0 b then operator b
-    else (if bytes_eq text (codes "?") then question
-    else (if bytes_eq text (codes ":") then colon
-    else (if bytes_eq text (codes "+:") then plus_colon
-    else (if bytes_eq text (codes "-:") then minus_colon
-    else (if bytes_eq text (codes ",") then comma
-    else (if bytes_eq text (codes ")") then close_group
-    else (if bytes_eq text (codes "[") then open_select
-    else (if bytes_eq text (codes "]") then close_select
-    else (if bytes_eq text (codes "{") then open_brace
-    else (if bytes_eq text (codes "}") then close_brace
-    else no_role))))))))))
-
-unfoldable pub role_of : Token → Role
-role_of t = if is_sign t.kind then role_of_sign (precedence t.text) t.text else no_role
-
 -- what a token is where an operand is wanted
 pub data Start : Type 0 where
   a_sign : Start
@@ -115,69 +82,46 @@ begun a_group t fs = wants (in_group ∷ fs)
 begun a_brace t fs = wants (in_braces t [] ∷ fs)
 begun no_start t fs = failed
 
+-- behind the first part in braces the second brace of a replication may stand
+abbrev pub opened_parts : Token → List Expr → Expr → List Frame → State
+opened_parts o [] x fs = wants (in_parts o x [] ∷ fs)
+opened_parts o (y ∷ ys) x fs = failed
+
 -- behind a whole expression in these frames
-abbrev pub closed_select : Role → Token → Token → Expr → List Frame → State
-closed_select close_select id o x fs = has (e.Read (id_of id) (sel.Bit o.place x ∷ [])) fs
-closed_select colon id o x fs = wants (in_range down_to id o x ∷ fs)
-closed_select plus_colon id o x fs = wants (in_range up_from id o x ∷ fs)
-closed_select minus_colon id o x fs = wants (in_range down_from id o x ∷ fs)
-closed_select _ id o x fs = failed
-
-abbrev pub closed_range : Role → Between → Token → Token → Expr → Expr → List Frame → State
-closed_range close_select w id o a x fs = has (e.Read (id_of id) (range_of w o.place a x ∷ [])) fs
-closed_range _ w id o a x fs = failed
-
-abbrev pub closed_first : Role → Token → List Expr → Expr → List Frame → State
-closed_first open_brace o [] y fs = wants (in_parts o y [] ∷ fs)
-closed_first open_brace o (z ∷ zs) y fs = failed
-closed_first _ o ys y fs = failed
-
-abbrev pub closed_braces : Role → Token → List Expr → Expr → List Frame → State
-closed_braces comma o ys x fs = wants (in_braces o (ys ++ x ∷ []) ∷ fs)
-closed_braces close_brace o ys x fs = has (e.Concat o.place (ys ++ x ∷ [])) fs
-closed_braces r o ys x fs = closed_first r o ys x fs
-
-abbrev pub closed_parts : Role → Token → Expr → List Expr → Expr → List Frame → State
-closed_parts comma o n ys x fs = wants (in_parts o n (ys ++ x ∷ []) ∷ fs)
-closed_parts close_brace o n ys x fs = wants_brace (e.Repeat o.place n (ys ++ x ∷ [])) fs
-closed_parts _ o n ys x fs = failed
-
-abbrev pub closed_first_choice : Role → Expr → Token → Expr → List Frame → State
-closed_first_choice colon c q x fs = wants (in_second c q x ∷ fs)
-closed_first_choice _ c q x fs = failed
-
-abbrev pub closed_group : Role → Expr → List Frame → State
-closed_group close_group x fs = has x fs
-closed_group _ x fs = failed
-
-abbrev pub closed : Role → Expr → List Frame → State
-closed r x [] = failed
-closed r x (in_group ∷ fs) = closed_group r x fs
-closed r x (in_call f ∷ fs) = closed_group r (e.System (id_of f) x) fs
-closed r x (in_select id o ∷ fs) = closed_select r id o x fs
-closed r x (in_range w id o a ∷ fs) = closed_range r w id o a x fs
-closed r x (in_braces o ys ∷ fs) = closed_braces r o ys x fs
-closed r x (in_parts o n ys ∷ fs) = closed_parts r o n ys x fs
-closed r x (in_first c q ∷ fs) = closed_first_choice r c q x fs
-closed r x (in_second c q m ∷ fs) = failed
-closed r x (under_sign s ∷ fs) = failed
-closed r x (behind_left l s ∷ fs) = failed
+abbrev pub closed : Token → Expr → List Frame → State
+closed t x [] = failed
+closed t x (in_group ∷ fs) = if is_this (codes ")") t then has x fs else failed
+closed t x (in_call f ∷ fs) = if is_this (codes ")") t then has (e.System (id_of f) x) fs else failed
+closed t x (in_select id o ∷ fs) =
+    if is_this (codes ":") t then wants (in_range down_to id o x ∷ fs)
+    else (if is_this (codes "+:") t then wants (in_range up_from id o x ∷ fs)
+    else (if is_this (codes "-:") t then wants (in_range down_from id o x ∷ fs)
+    else (if is_this (codes "]") t then has (e.Read (id_of id) (sel.Bit o.place x ∷ [])) fs else failed)))
+closed t x (in_range w id o a ∷ fs) = if is_this (codes "]") t then has (e.Read (id_of id) (range_of w o.place a x ∷ [])) fs else failed
+closed t x (in_braces o ys ∷ fs) =
+    if is_this (codes "{") t then opened_parts o ys x fs
+    else (if is_this (codes ",") t then wants (in_braces o (ys ++ x ∷ []) ∷ fs)
+    else (if is_this (codes "}") t then has (e.Concat o.place (ys ++ x ∷ [])) fs else failed))
+closed t x (in_parts o n ys ∷ fs) =
+    if is_this (codes ",") t then wants (in_parts o n (ys ++ x ∷ []) ∷ fs)
+    else (if is_this (codes "}") t then wants_brace (e.Repeat o.place n (ys ++ x ∷ [])) fs else failed)
+closed t x (in_first c q ∷ fs) = if is_this (codes ":") t then wants (in_second c q x ∷ fs) else failed
+closed t x (in_second c q m ∷ fs) = failed
+closed t x (under_sign s ∷ fs) = failed
+closed t x (behind_left l s ∷ fs) = failed
 
 -- behind an operand
-abbrev pub went_on : Role → Token → Expr → List Frame → State
-went_on (operator b) t x fs = let found = reduce b fs x in wants (behind_left found.0 t ∷ found.1)
-went_on question t x fs = let found = reduce 1 fs x in wants (in_first found.0 t ∷ found.1)
-went_on r t x fs = let found = reduce 0 fs x in closed r found.0 found.1
-
-abbrev pub went_on_name : Role → Token → Token → List Frame → State
-went_on_name open_select t id fs = wants (in_select id t ∷ fs)
-went_on_name r t id fs = went_on r t (e.Read (id_of id) []) fs
+abbrev pub went_on : Token → Expr → List Frame → State
+went_on t x fs =
+    if nat_lt 0 (binds t) then wants (behind_left (reduce (binds t) fs x).0 t ∷ (reduce (binds t) fs x).1)
+    else (if is_this (codes "?") t then wants (in_first (reduce 1 fs x).0 t ∷ (reduce 1 fs x).1)
+    else closed t (reduce 0 fs x).0 (reduce 0 fs x).1)
 
 abbrev pub step : Token → State → State
 step t (wants fs) = begun (start_of t) t fs
 step t (wants_argument f fs) = if is_this (codes "(") t then wants (in_call f ∷ fs) else failed
-step t (has_name id fs) = went_on_name (role_of t) t id fs
-step t (has x fs) = went_on (role_of t) t x fs
+step t (has_name id fs) = if is_this (codes "[") t then wants (in_select id t ∷ fs) else went_on t (e.Read (id_of id) []) fs
+step t (has x fs) = went_on t x fs
 step t (wants_brace x fs) = if is_this (codes "}") t then has x fs else failed
 step t failed = failed
 

@@ -1,13 +1,14 @@
 -- What tokens of the grammar are to the machine.
 use Rattle.std.proofs.Common.{◌≡◌, ◌∙◌, ℕ, ◌<◌, ◌≤◌, zero, suc, Bool, true, false, ◌&&◌, nat_lt, List, refl, sym, ap, arith, codes, if◌then◌else◌}
-use Rattle.std.proofs.lemmas.Bool.{lt-ltb}
+use Rattle.std.proofs.lemmas.Bool.{false_from_ne_true}
+use Rattle.std.specs.Str.{bytes_eq}
 use Rattle.std.proofs.lemmas.Slice.Eq.{bytes_eq-Decides}
 use Rattle.sv_base.specs.declared.refusal.Place.{Place}
 use Rattle.sv_lexer.specs.declared.token.TokenKind.{TokenKind}
 use Rattle.sv_lexer.specs.declared.token.TokenKind.TheVariants as kind
 use Rattle.sv_lexer.specs.declared.token.Token.{Token}
 use Rattle.expr_parser.specs.Spelling.{is_identifier, is_function, is_unary, is_this, is_sign, precedence, binds}
-use Rattle.expr_parser.proofs.Machine.{Role, operator, role_of, role_of_sign, Start, a_sign, a_number, a_fill, a_name, a_function, a_group, a_brace, start_of, start_by}
+use Rattle.expr_parser.proofs.Machine.{Start, a_sign, a_number, a_fill, a_name, a_function, a_group, a_brace, start_of, start_by}
 
 pub both : (a b : Bool) → (a && b) ≡ true → (a ≡ true) × (b ≡ true)
 both true b h = (refl, h)
@@ -17,20 +18,20 @@ pub same_text : (text : List ℕ) (t : Token) → is_this text t ≡ true → (i
 unfolding is_this
 same_text text t h = let b = both _ _ h in (b.0, (bytes_eq-Decides t.text text).0 b.1)
 
--- a sign has the role of its text
-pub role_from : (text : List ℕ) (t : Token) → is_this text t ≡ true → role_of t ≡ role_of_sign (precedence text) text
-unfolding role_of
-role_from text t h = let b = same_text text t h in rw (b.0, b.1) refl
+-- a sign is no other
+pub not_this : (text other : List ℕ) (t : Token) → is_this text t ≡ true → bytes_eq text other ≡ false → is_this other t ≡ false
+unfolding is_this
+not_this text other t h differ = let b = same_text text t h in rw (b.0, b.1) differ
 
-role_at : (s : Bool) (n : ℕ) (text : List ℕ) (none : Role) → 0 < (if s then n else 0)
-    → (if s then role_of_sign n text else none) ≡ operator (if s then n else 0)
-role_at true n text none h = rw (lt-ltb 0 n h) refl
-role_at false n text none h = absurd (omega arith)
+-- a sign that binds so between operands
+pub binds-this : (text : List ℕ) (t : Token) → is_this text t ≡ true → binds t ≡ precedence text
+unfolding binds
+binds-this text t h = let b = same_text text t h in rw (b.0, b.1) refl
 
--- a sign between operands is an operator
-pub role_of-binary : (t : Token) → 0 < binds t → role_of t ≡ operator (binds t)
-unfolding role_of binds
-role_of-binary t h = role_at (is_sign t.kind) (precedence t.text) t.text _ h
+-- a text that stands between operands is no other sign
+pub binds-not_this : (other : List ℕ) (t : Token) → 0 < binds t → precedence other ≡ 0 → is_this other t ≡ false
+binds-not_this other t some none =
+    false_from_ne_true (is_this other t) (λ same. let zero_there : binds t ≡ 0 = binds-this other t same ∙ none in omega arith)
 
 -- ---- where an operand is wanted
 
