@@ -3,3 +3,4 @@ mod Last
 mod Machine
 mod Roles
 mod Complete
+mod Took
