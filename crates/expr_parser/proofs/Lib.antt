@@ -4,3 +4,4 @@ mod Machine
 mod Roles
 mod Complete
 mod Took
+mod Spot
