@@ -116,40 +116,40 @@ read-name t h fs holds =
     record { operand = e.Read (id_of t) []; frames = fs; is = ap (λ k. operand_of (begun k t fs)) (start_of-name t h); folds = λ b le. refl }
 
 -- one expression in brackets, whose frame is f
-in-brackets : (f : Frame) (fs : List Frame) (p : Phrase) → IsRead p → Holds (f ∷ fs) (strength p) → reduce 0 (f ∷ fs) (tree_of p) ≡ (tree_of p, f ∷ fs)
+pub in-brackets : (f : Frame) (fs : List Frame) (p : Phrase) → IsRead p → Holds (f ∷ fs) (strength p) → reduce 0 (f ∷ fs) (tree_of p) ≡ (tree_of p, f ∷ fs)
     → (c : Token) → IsEnd c → step c (steps (wants (f ∷ fs)) (tokens_of p)) ≡ closed c (tree_of p) (f ∷ fs)
 in-brackets f fs p read holds rests c ends =
     step-end c ends (f ∷ fs) (tree_of p) (strength p) _ (read (f ∷ fs) holds) ∙ ap (λ x. closed c x.0 x.1) rests
 
-end-group : (t : Token) → Is (codes ")") t → IsEnd t
+pub end-group : (t : Token) → Is (codes ")") t → IsEnd t
 unfolding precedence
 end-group t h = is_end (codes ")") t h refl refl refl
 
-end-select : (t : Token) → Is (codes "]") t → IsEnd t
+pub end-select : (t : Token) → Is (codes "]") t → IsEnd t
 unfolding precedence
 end-select t h = is_end (codes "]") t h refl refl refl
 
-end-brace : (t : Token) → Is (codes "}") t → IsEnd t
+pub end-brace : (t : Token) → Is (codes "}") t → IsEnd t
 unfolding precedence
 end-brace t h = is_end (codes "}") t h refl refl refl
 
-end-open_brace : (t : Token) → Is (codes "{") t → IsEnd t
+pub end-open_brace : (t : Token) → Is (codes "{") t → IsEnd t
 unfolding precedence
 end-open_brace t h = is_end (codes "{") t h refl refl refl
 
-end-comma : (t : Token) → Is (codes ",") t → IsEnd t
+pub end-comma : (t : Token) → Is (codes ",") t → IsEnd t
 unfolding precedence
 end-comma t h = is_end (codes ",") t h refl refl refl
 
-end-colon : (t : Token) → Is (codes ":") t → IsEnd t
+pub end-colon : (t : Token) → Is (codes ":") t → IsEnd t
 unfolding precedence
 end-colon t h = is_end (codes ":") t h refl refl refl
 
-end-up : (t : Token) → Is (codes "+:") t → IsEnd t
+pub end-up : (t : Token) → Is (codes "+:") t → IsEnd t
 unfolding precedence
 end-up t h = is_end (codes "+:") t h refl refl refl
 
-end-down : (t : Token) → Is (codes "-:") t → IsEnd t
+pub end-down : (t : Token) → Is (codes "-:") t → IsEnd t
 unfolding precedence
 end-down t h = is_end (codes "-:") t h refl refl refl
 
@@ -169,7 +169,7 @@ read-call f o p c read h fs holds =
         ∙ rw h.3 refl)
 
 -- a name and its `[`
-opened-select : (id o : Token) (fs : List Frame) → is_identifier id ≡ true → Is (codes "[") o → step o (step id (wants fs)) ≡ wants (in_select id o ∷ fs)
+pub opened-select : (id o : Token) (fs : List Frame) → is_identifier id ≡ true → Is (codes "[") o → step o (step id (wants fs)) ≡ wants (in_select id o ∷ fs)
 opened-select id o fs h k =
     ap (λ j. step o (begun j id fs)) (start_of-name id h) ∙ rw k refl
 
@@ -181,7 +181,7 @@ read-selected id o p c read h fs holds =
         ∙ rw (not_this (codes "]") (codes ":") c h.3 refl, not_this (codes "]") (codes "+:") c h.3 refl, not_this (codes "]") (codes "-:") c h.3 refl, h.3) refl)
 
 -- behind the first expression of a select
-between-step : (w : Between) (id o : Token) (fs : List Frame) (p : Phrase) → IsRead p → (between : Token) → Is (between_text w) between
+pub between-step : (w : Between) (id o : Token) (fs : List Frame) (p : Phrase) → IsRead p → (between : Token) → Is (between_text w) between
     → step between (steps (wants (in_select id o ∷ fs)) (tokens_of p)) ≡ wants (in_range w id o (tree_of p) ∷ fs)
 between-step down_to id o fs p read t h = in-brackets (in_select id o) fs p read tt refl t (end-colon t h) ∙ rw h refl
 between-step up_from id o fs p read t h = in-brackets (in_select id o) fs p read tt refl t (end-up t h) ∙ rw (not_this (codes "+:") (codes ":") t h refl, h) refl
@@ -240,7 +240,7 @@ went_on-question : (t : Token) (x : Expr) (fs : List Frame) → Is (codes "?") t
 went_on-question t x fs h = rw (binds-this (codes "?") t h ∙ question-none, h) refl
 
 -- the left operand and the sign
-left-step : (p : Phrase) (sign : Token) (fs : List Frame) → IsRead p → 0 < binds sign → binds sign ≤ 11 → binds sign ≤ strength p → Holds fs (binds sign)
+pub left-step : (p : Phrase) (sign : Token) (fs : List Frame) → IsRead p → 0 < binds sign → binds sign ≤ 11 → binds sign ≤ strength p → Holds fs (binds sign)
     → step sign (steps (wants fs) (tokens_of p)) ≡ wants (behind_left (tree_of p) sign ∷ fs)
 left-step p sign fs read some small le holds =
     let left = read fs (Holds-more fs _ _ le holds) in
@@ -260,7 +260,7 @@ read-binary p sign q read_p read_q h fs holds =
     }
 
 -- the condition and `?`
-first-step : (p : Phrase) (t : Token) (fs : List Frame) → IsRead p → Is (codes "?") t → 0 < strength p → Holds fs 0
+pub first-step : (p : Phrase) (t : Token) (fs : List Frame) → IsRead p → Is (codes "?") t → 0 < strength p → Holds fs 0
     → step t (steps (wants fs) (tokens_of p)) ≡ wants (in_first (tree_of p) t ∷ fs)
 first-step p t fs read h some holds =
     let test = read fs (Holds-more fs _ _ (omega arith) holds) in
@@ -336,16 +336,16 @@ read-more p c ps read read_list h frame is_frame ys fs =
     }
 
 -- the token behind a list
-list-end : (t : Token) → IsEnd t → (frame : List Expr → Frame) (fs : List Frame) (all : List Expr) (state : State)
+pub list-end : (t : Token) → IsEnd t → (frame : List Expr → Frame) (fs : List Frame) (all : List Expr) (state : State)
     → (ended : ListEnded frame fs all state) → step t state ≡ closed t ended.last (frame ended.before ∷ fs)
 list-end t ends frame fs all state ended =
     step-operand t ends.no_select state ended.operand ended.frames ended.is ∙ went_on-end t ended.operand ended.frames ends
         ∙ ap (λ p. closed t p.0 p.1) ended.folds
 
-braces-frame : (o : Token) → IsListFrame (in_braces o)
+pub braces-frame : (o : Token) → IsListFrame (in_braces o)
 braces-frame o = record { holds = λ ys fs s. tt; rests = λ ys fs x. refl; goes_on = λ c h ys fs x. rw (not_this (codes ",") (codes "{") c h refl, h) refl }
 
-parts-frame : (o : Token) (n : Expr) → IsListFrame (in_parts o n)
+pub parts-frame : (o : Token) (n : Expr) → IsListFrame (in_parts o n)
 parts-frame o n = record { holds = λ ys fs s. tt; rests = λ ys fs x. refl; goes_on = λ c h ys fs x. rw h refl }
 
 read-concat : (o : Token) (ps : Phrases) (c : Token) → IsListRead ps → IsPhrase (concat o ps c) → IsRead (concat o ps c)

@@ -5,3 +5,5 @@ mod Roles
 mod Complete
 mod Took
 mod Spot
+mod Part
+mod Inners

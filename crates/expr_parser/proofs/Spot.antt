@@ -92,16 +92,16 @@ pub record Inner (least : ℕ) (i : Input) (fs : List Frame) (inner : ℕ) (j : 
   pub state : steps (wants fs) before ≡ wants gs
   pub holds : (q : Phrase) → Fits inner q → Holds gs (strength q)
 
-in_three : (a b q c d w : List Token) → w ≡ b ++ (q ++ c) → a ++ (w ++ d) ≡ (a ++ b) ++ (q ++ (c ++ d))
+pub in_three : (a b q c d w : List Token) → w ≡ b ++ (q ++ c) → a ++ (w ++ d) ≡ (a ++ b) ++ (q ++ (c ++ d))
 in_three a b q c d w h =
     ap (λ k. a ++ (k ++ d)) h ∙ ap (λ k. a ++ k) (append_assoc b (q ++ c) d ∙ ap (λ k. b ++ k) (append_assoc q c d)) ∙ sym (append_assoc a b (q ++ (c ++ d)))
 
-before-within : (b q c : List Token) (w : List Token) → w ≡ b ++ (q ++ c) → (m : ℕ) → m ≤ length q → length b + m ≤ length w
+pub before-within : (b q c : List Token) (w : List Token) → w ≡ b ++ (q ++ c) → (m : ℕ) → m ≤ length q → length b + m ≤ length w
 before-within b q c w h m le =
     let whole : length w ≡ length (b ++ (q ++ c)) = ap length h in
     omega (arith, length-append b (q ++ c), length-append q c)
 
-cases_le : (k n : ℕ) → (k ≤ n) ⊎ (n < k)
+pub cases_le : (k n : ℕ) → (k ≤ n) ⊎ (n < k)
 cases_le k n = elim (leb_tells k n) [ inl h ↦ inl h.1 | inr h ↦ inr h.1 ]
 
 inside-shallow : (top : Input) (least : ℕ) (i : Input) (fs : List Frame) (inner : ℕ) (j : Input) (gs : List Frame)
