@@ -399,7 +399,7 @@ mutual
 pub ends_with : (p : Phrase) → IsPhrase p → Ended [] (tree_of p) (strength p) (steps (wants []) (tokens_of p))
 ends_with p h = reads_phrase p h [] tt
 
-same_ends : (s : State) (x y : Expr × List Frame) → operand_of s ≡ Some x → operand_of s ≡ Some y → x ≡ y
+pub same_ends : (s : State) (x y : Expr × List Frame) → operand_of s ≡ Some x → operand_of s ≡ Some y → x ≡ y
 same_ends s x y h k = some_same x y (sym h ∙ k)
 
 -- two phrases of the same tokens have one tree

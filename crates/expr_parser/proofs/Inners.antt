@@ -79,7 +79,7 @@ one_shallow base f a b h k le =
 
 -- ---- the operand of a sign
 
-pub inner-unary : (least : ℕ) (i : Input) (fs : List Frame) (t : Token) (j : Input) → least ≤ 12 → is_unary t ≡ true
+unfoldable pub inner-unary : (least : ℕ) (i : Input) (fs : List Frame) (t : Token) (j : Input) → least ≤ 12 → is_unary t ≡ true
     → Took i.rest j.rest (t ∷ []) → j.last ≡ i.last → j.nested ≡ i.nested + 1 → i.nested + 1 ≤ greatest_nesting
     → Inner least i fs 12 j (under_sign t ∷ fs)
 inner-unary least i fs t j small sign took last nested fine = record {
@@ -99,7 +99,7 @@ inner-unary least i fs t j small sign took last nested fine = record {
 
 -- ---- the second operand of a sign
 
-after-first : (a q : List Token) (t : Token) → a ++ t ∷ q ≡ (a ++ t ∷ []) ++ (q ++ [])
+pub after-first : (a q : List Token) (t : Token) → a ++ t ∷ q ≡ (a ++ t ∷ []) ++ (q ++ [])
 after-first a q t = ap (λ x. a ++ t ∷ x) (sym (append-nil q)) ∙ sym (append_assoc a (t ∷ []) (q ++ []))
 
 -- up to a phrase, and one token more
@@ -111,7 +111,7 @@ two_shallow base len f low last k le =
     | inr long ↦ let at : k ≡ len + (1 + 0) = omega arith in let P : ℕ → Type 0 = λ x. base + f x ≤ greatest_nesting in subst P (sym at) last
     ]
 
-pub inner-binary : (least : ℕ) (i : Input) (fs : List Frame) → ((q : Phrase) → Fits least q → Holds fs (strength q))
+unfoldable pub inner-binary : (least : ℕ) (i : Input) (fs : List Frame) → ((q : Phrase) → Fits least q → Holds fs (strength q))
     → (tree : Expr) (j : Input) (p : Part fs i tree j) (t : Token) (k : Input) → least < binds t → binds t ≤ strength p.phrase
     → Took j.rest k.rest (t ∷ []) → k.last ≡ j.last → k.nested ≡ j.nested + 1 → k.nested ≤ greatest_nesting
     → Inner least i fs (binds t) k (behind_left (tree_of p.phrase) t ∷ fs)
@@ -144,10 +144,10 @@ inner-binary least i fs holds tree j p t k above le took last nested fine = reco
 
 -- ---- behind `?`, and behind its `:`
 
-between_parts : (a q c : List Token) (t : Token) → (a ++ t ∷ q) ++ c ≡ (a ++ t ∷ []) ++ (q ++ c)
+pub between_parts : (a q c : List Token) (t : Token) → (a ++ t ∷ q) ++ c ≡ (a ++ t ∷ []) ++ (q ++ c)
 between_parts a q c t = append_assoc a (t ∷ q) c ∙ sym (append_assoc a (t ∷ []) (q ++ c))
 
-pub inner-first : (i : Input) (fs : List Frame) → ((q : Phrase) → Fits 0 q → Holds fs (strength q))
+unfoldable pub inner-first : (i : Input) (fs : List Frame) → ((q : Phrase) → Fits 0 q → Holds fs (strength q))
     → (tree : Expr) (j : Input) (p : Part fs i tree j) (t u : Token) (k : Input) → 0 < strength p.phrase → Is (codes "?") t → Is (codes ":") u
     → Took j.rest k.rest (t ∷ []) → k.last ≡ j.last → k.nested ≡ j.nested + 1 → k.nested ≤ greatest_nesting
     → Inner 0 i fs 0 k (in_first (tree_of p.phrase) t ∷ fs)
@@ -182,7 +182,7 @@ inner-first i fs holds tree j p t u k some is colon took last nested fine = reco
     holds = λ q f. tt;
   }
 
-all_parts : (a q r : List Token) (t u : Token) → (a ++ t ∷ q) ++ u ∷ r ≡ ((a ++ t ∷ []) ++ (q ++ u ∷ [])) ++ (r ++ [])
+pub all_parts : (a q r : List Token) (t u : Token) → (a ++ t ∷ q) ++ u ∷ r ≡ ((a ++ t ∷ []) ++ (q ++ u ∷ [])) ++ (r ++ [])
 all_parts a q r t u =
     between_parts a q (u ∷ r) t ∙ ap (λ x. (a ++ t ∷ []) ++ x) (after-first q r u) ∙ sym (append_assoc (a ++ t ∷ []) (q ++ u ∷ []) (r ++ []))
 
@@ -210,7 +210,7 @@ choice_shallow fs gs i tree j p t k first_tree l q u nested r x short =
         subst P (sym at) (omega (arith, here, rest, nested, p.nested_is))
     ]
 
-pub inner-second : (i : Input) (fs : List Frame) → ((q : Phrase) → Fits 0 q → Holds fs (strength q))
+unfoldable pub inner-second : (i : Input) (fs : List Frame) → ((q : Phrase) → Fits 0 q → Holds fs (strength q))
     → (tree : Expr) (j : Input) (p : Part fs i tree j) (t : Token) (k : Input) (first_tree : Expr) (l : Input) (gs : List Frame) (q : Part gs k first_tree l) (u : Token) (m : Input)
     → 0 < strength p.phrase → Is (codes "?") t → Is (codes ":") u
     → Took j.rest k.rest (t ∷ []) → k.last ≡ j.last → k.nested ≡ j.nested + 1

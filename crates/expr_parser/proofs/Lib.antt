@@ -7,3 +7,4 @@ mod Took
 mod Spot
 mod Part
 mod Inners
+mod Operators
