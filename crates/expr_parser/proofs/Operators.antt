@@ -2,6 +2,7 @@
 use Rattle.std.proofs.Common.{◌≡◌, ◌∙◌, ◌⊎◌, inl, inr, ℕ, zero, suc, ◌+◌, ◌-◌, ◌<◌, ◌≤◌, ◌==◌, Bool, true, false, nat_le, List, [], ◌∷◌, ◌++◌, length, Option, Some, None, Result, Ok, Err, refl, sym, ap, subst, arith, codes, append_assoc, append-nil, length-append, if◌then◌else◌}
 use Rattle.std.proofs.lemmas.Bool.Decides.{leb_tells}
 use Rattle.sv_lexer.specs.declared.token.Token.{Token}
+use Rattle.sv_lexer.specs.declared.token.TokenKind.TheVariants as kind
 use Rattle.sv_base.specs.declared.refusal.Refusal.{Refusal}
 use Rattle.sv_ast.specs.declared.expression.Id.{Id}
 use Rattle.sv_ast.specs.declared.expression.Expr.{Expr}
@@ -9,7 +10,7 @@ use Rattle.sv_ast.specs.declared.expression.Expr.TheVariants as e
 use Rattle.expr_parser.specs.declared.fault.ParseFault.TheVariants.{Refused}
 use Rattle.expr_parser.specs.Spelling.{is_this, is_unary, binds}
 use Rattle.expr_parser.specs.Grammar.{Phrase, number, unary, binary, choice, tokens_of, tree_of, id_of, Is, IsPhrase, strength}
-use Rattle.expr_parser.specs.Nesting.{nesting, operators, greatest_nesting}
+use Rattle.expr_parser.specs.Nesting.{nesting, operators, operands, greatest_nesting}
 use Rattle.expr_parser.specs.Outcome.{nesting_refusal}
 use Rattle.expr_parser.specs.Input.{Input, Outcome, Parser, past_marks, front_of, after, next, ahead, turns, sees, and_then, rise, take_id, refusal, expect}
 use Rattle.expr_parser.specs.Reading.{prefixed, operation, climb, operations, chosen, level, operand, primary, binds_next, is_unary_next}
@@ -177,3 +178,100 @@ judged_operations : (top : Input) (expr : ℕ → Parser Expr) (depth : ℕ) →
 unfolding operations turns
 judged_operations top expr depth reader least small i fs s enough tree j tighter =
     judged_climb top expr depth reader least small i fs s enough (length j.rest) tree j tighter (omega arith)
+
+-- ---- a whole expression and the token behind it
+
+cons_none : (f : Frame) (fs : List Frame) → f ∷ fs ≡ [] → ⊥
+cons_none f fs h = cc
+
+whole_fails_by : (f : Frame) (fs : List Frame) (q : Phrase) → IsPhrase q → Holds (f ∷ fs) (strength q) → reduce 0 (f ∷ fs) (tree_of q) ≡ (tree_of q, f ∷ fs)
+    → (t : Token) → binds t ≤ 0 → is_this (codes "?") t ≡ false → (c : Bool) → is_this (codes "[") t ≡ c
+    → (is_this (codes "[") t ≡ true → step t (steps (wants (f ∷ fs)) (tokens_of q)) ≡ failed)
+    → closed t (tree_of q) (f ∷ fs) ≡ failed → step t (steps (wants (f ∷ fs)) (tokens_of q)) ≡ failed
+whole_fails_by f fs q h holds rests t none no_question true is select ends = select is
+whole_fails_by f fs q h holds rests t none no_question false is select ends =
+    in-brackets f fs q (reads_phrase q h) holds rests t (record { binds_none = omega arith; no_question = no_question; no_select = is }) ∙ ends
+
+-- a token that ends no bracket goes on with nothing behind a whole expression
+pub whole_fails : (f : Frame) (fs : List Frame) (q : Phrase) → IsPhrase q → Holds (f ∷ fs) (strength q) → reduce 0 (f ∷ fs) (tree_of q) ≡ (tree_of q, f ∷ fs)
+    → (t : Token) → binds t ≤ 0 → is_this (codes "?") t ≡ false → (is_this (codes "[") t ≡ true → step t (steps (wants (f ∷ fs)) (tokens_of q)) ≡ failed)
+    → closed t (tree_of q) (f ∷ fs) ≡ failed → step t (steps (wants (f ∷ fs)) (tokens_of q)) ≡ failed
+whole_fails f fs q h holds rests t none no_question select ends = whole_fails_by f fs q h holds rests t none no_question _ refl select ends
+
+-- in a bracket nothing is finished
+pub whole_unfinished : (f : Frame) (fs : List Frame) (q : Phrase) → IsPhrase q → Holds (f ∷ fs) (strength q) → reduce 0 (f ∷ fs) (tree_of q) ≡ (tree_of q, f ∷ fs)
+    → (x : Expr) (gs : List Frame) → operand_of (steps (wants (f ∷ fs)) (tokens_of q)) ≡ Some (x, gs) → (reduce 0 gs x).1 ≡ [] → ⊥
+whole_unfinished f fs q h holds rests x gs is none =
+    let ended = reads_phrase q h (f ∷ fs) holds in
+    let same = same_ends (steps (wants (f ∷ fs)) (tokens_of q)) (x, gs) (ended.operand, ended.frames) is ended.is in
+    let whole : reduce 0 gs x ≡ (tree_of q, f ∷ fs) = ap (λ p. reduce 0 p.1 p.0) same ∙ ended.folds 0 (omega arith) ∙ rests in
+    cons_none f fs (sym (ap (λ p. p.1) whole) ∙ none)
+
+-- ---- a choice
+
+-- a `:` that stands for any
+abbrev colon_sign : Token
+colon_sign = record { kind = kind.Sign; text = codes ":"; place = record { file = 0; line = 0 } }
+
+colon_is : Is (codes ":") colon_sign
+unfolding is_this
+colon_is = refl
+
+abbrev one_operand : ℕ → ℕ
+one_operand = operands 1 (nesting (number spare)) 0 (nesting (number spare))
+
+judged_second : (top : Input) (expr : ℕ → Parser Expr) (depth : ℕ) → IsReader top expr depth → (i : Input) (fs : List Frame) → Spot top 0 i fs
+    → greatest_nesting + 1 ≤ i.nested + suc depth → (tree : Expr) (j : Input) (p : Part fs i tree j) → 0 < strength p.phrase
+    → (t : Token) → Is (codes "?") t → (k : Input) → Took j.rest k.rest (t ∷ []) → k.last ≡ j.last → k.nested ≡ j.nested + 1
+    → (x : Expr) (l : Input) (g : Good 0 (in_first (tree_of p.phrase) t ∷ fs) k x l) (u : Token) → Next l.rest u → Is (codes ":") u
+    → Judged top (Good 0 fs i) (and_then (expr 0 (after l)) (λ y m. Ok (e.Choice (id_of t) tree x y, m)))
+unfolding inner-second wrapped
+judged_second top expr depth reader i fs s enough tree j p some t is k took last count x l g u u_next colon =
+    let q = g.part in
+    let gs = in_second (tree_of p.phrase) t (tree_of q.phrase) ∷ fs in
+    let stepped : step u (steps (wants (in_first (tree_of p.phrase) t ∷ fs)) (tokens_of q.phrase)) ≡ wants gs =
+          in-brackets (in_first (tree_of p.phrase) t) fs q.phrase (reads_phrase q.phrase q.in_grammar) tt refl u (end-colon u colon) ∙ rw colon refl in
+    let n = inner-second i fs s.holds tree j p t k x l (in_first (tree_of p.phrase) t ∷ fs) q u (after l) some is colon took last count
+          (Took-after l u u_next) (after-last l) (after-nested l) stepped in
+    judged_then top (Good 0 gs (after l)) (Good 0 fs i) (expr 0 (after l)) (λ y m. Ok (e.Choice (id_of t) tree x y, m))
+      (reader 0 (omega arith) (after l) gs (inside top 0 i fs 0 (after l) gs s n) (omega (arith, after-nested l, q.nested_is, count, p.nested_is)))
+      (λ y m r. record {
+          part = wrapped 0 i fs 0 (after l) gs n refl y m r (e.Choice (id_of t) tree x y)
+              (ap (λ z. e.Choice (id_of t) z (tree_of q.phrase) (tree_of r.part.phrase)) p.tree_is
+                ∙ ap (λ z. e.Choice (id_of t) tree z (tree_of r.part.phrase)) q.tree_is ∙ ap (λ z. e.Choice (id_of t) tree x z) r.part.tree_is)
+              (omega (arith, after-nested l, q.nested_is, count, p.nested_is)) r.stops;
+          fits = λ none. absurd (omega arith);
+          stops = r.stops;
+          no_question = r.no_question;
+        })
+
+judged_chosen : (top : Input) (expr : ℕ → Parser Expr) (depth : ℕ) → IsReader top expr depth → (i : Input) (fs : List Frame) → Spot top 0 i fs
+    → greatest_nesting + 1 ≤ i.nested + suc depth → (tree : Expr) (j : Input) (p : Part fs i tree j) → 0 < strength p.phrase
+    → (t : Token) → Next j.rest t → Is (codes "?") t → Judged top (Good 0 fs i) (chosen expr tree j)
+unfolding chosen inner-first
+judged_chosen top expr depth reader i fs s enough tree j p some t is_next is =
+    let lp = length (tokens_of p.phrase) in
+    let over = choice p.phrase t (number spare) colon_sign (number spare) in
+    risen top j t (Good 0 fs i) _ is_next
+      (λ full. deep_at top 0 i fs s j over (tokens_of p.phrase) t (spare ∷ colon_sign ∷ spare ∷ [])
+          (is, p.in_grammar, some, refl, colon_is, refl) (λ none. absurd (omega arith))
+          (append_assoc (tokens_of p.phrase) (t ∷ spare ∷ []) (colon_sign ∷ spare ∷ []) ∙ sym (append_assoc (tokens_of p.phrase) (t ∷ []) (spare ∷ colon_sign ∷ spare ∷ []))) p.took is_next
+          (λ m within. let here = operands-first lp (nesting p.phrase) (operators p.phrase + 1) one_operand m within in let fine = p.shallow m within in omega (arith, here, fine))
+          (let here = operands-second lp (nesting p.phrase) (operators p.phrase + 1) one_operand 0 in
+            let none = operands-first 1 (nesting (number spare)) 0 (nesting (number spare)) 0 (omega arith) in omega (arith, here, none, p.nested_is, p.small, full)))
+      (λ k took last count within.
+        let gs = in_first (tree_of p.phrase) t ∷ fs in
+        let n = inner-first i fs s.holds tree j p t colon_sign k some is colon_is took last count within in
+        let spot = inside top 0 i fs 0 k gs s n in
+        judged_then top (Good 0 gs k) (Good 0 fs i) (expr 0 k) _
+          (reader 0 (omega arith) k gs spot (omega (arith, count, p.nested_is)))
+          (λ x l g.
+            judged_then top (λ _ m. (m ≡ after l) × ((u : Token) × (Next l.rest u × (is_this (codes ":") u ≡ true)))) (Good 0 fs i) (expect (codes ":") l) _
+              (judged_expect top l (codes ":") (λ no. stuck_at top 0 k gs spot l g.part.phrase (tokens_of g.part.phrase) [] g.part.in_grammar g.fits
+                  (sym (append-nil (tokens_of g.part.phrase))) g.part.took g.part.last_is g.part.shallow
+                  (λ u u_next. whole_fails (in_first (tree_of p.phrase) t) fs g.part.phrase g.part.in_grammar tt refl u (g.stops u u_next) (g.no_question refl u u_next)
+                      (g.part.no_select u u_next) (rw (no u u_next) refl))
+                  (whole_unfinished (in_first (tree_of p.phrase) t) fs g.part.phrase g.part.in_grammar tt refl)))
+              (λ _ m found.
+                let P : Input → Type 0 = λ z. Judged top (Good 0 fs i) (and_then (expr 0 z) (λ y w. Ok (e.Choice (id_of t) tree x y, w))) in
+                subst P (sym found.0) (judged_second top expr depth reader i fs s enough tree j p some t is k took last count x l g found.1.0 found.1.1.0 found.1.1.1))))
