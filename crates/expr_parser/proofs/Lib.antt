@@ -8,3 +8,5 @@ mod Spot
 mod Part
 mod Inners
 mod Operators
+mod Levels
+mod Final

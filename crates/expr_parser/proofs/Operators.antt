@@ -74,7 +74,7 @@ wrapped least i fs inner j gs n none x k g tree tree_is count less =
 
 -- ---- a sign and its operand
 
-judged_prefixed : (top : Input) (expr : ℕ → Parser Expr) (depth : ℕ) → IsReader top expr depth → (least : ℕ) → least ≤ 12
+pub judged_prefixed : (top : Input) (expr : ℕ → Parser Expr) (depth : ℕ) → IsReader top expr depth → (least : ℕ) → least ≤ 12
     → (i : Input) (fs : List Frame) → Spot top least i fs → greatest_nesting + 1 ≤ i.nested + suc depth
     → (t : Token) → Next i.rest t → is_unary t ≡ true → Judged top (IsOperand fs i) (prefixed expr i)
 unfolding prefixed inner-unary wrapped
@@ -172,7 +172,7 @@ judged_climb top expr depth reader least small i fs s enough (suc n) tree j tigh
     climb_at top expr depth reader least small i fs s enough n (judged_climb top expr depth reader least small i fs s enough n) tree j tighter le
       (front_of (past_marks j.rest)) refl _ (leb_tells (binds_next (front_of (past_marks j.rest))) least)
 
-judged_operations : (top : Input) (expr : ℕ → Parser Expr) (depth : ℕ) → IsReader top expr depth → (least : ℕ) → least ≤ 12
+pub judged_operations : (top : Input) (expr : ℕ → Parser Expr) (depth : ℕ) → IsReader top expr depth → (least : ℕ) → least ≤ 12
     → (i : Input) (fs : List Frame) → Spot top least i fs → greatest_nesting + 1 ≤ i.nested + suc depth
     → (tree : Expr) (j : Input) → IsTighter least fs i tree j → Judged top (IsClimbed least fs i) (operations expr least tree j)
 unfolding operations turns
@@ -245,7 +245,7 @@ judged_second top expr depth reader i fs s enough tree j p some t is k took last
           no_question = r.no_question;
         })
 
-judged_chosen : (top : Input) (expr : ℕ → Parser Expr) (depth : ℕ) → IsReader top expr depth → (i : Input) (fs : List Frame) → Spot top 0 i fs
+pub judged_chosen : (top : Input) (expr : ℕ → Parser Expr) (depth : ℕ) → IsReader top expr depth → (i : Input) (fs : List Frame) → Spot top 0 i fs
     → greatest_nesting + 1 ≤ i.nested + suc depth → (tree : Expr) (j : Input) (p : Part fs i tree j) → 0 < strength p.phrase
     → (t : Token) → Next j.rest t → Is (codes "?") t → Judged top (Good 0 fs i) (chosen expr tree j)
 unfolding chosen inner-first
