@@ -153,32 +153,41 @@ pub end-down : (t : Token) → Is (codes "-:") t → IsEnd t
 unfolding precedence
 end-down t h = is_end (codes "-:") t h refl refl refl
 
-read-group : (o : Token) (p : Phrase) (c : Token) → IsRead p → IsPhrase (group o p c) → IsRead (group o p c)
-read-group o p c read h fs holds =
-    ended_at fs _ _ _ (steps-append (step o (wants fs)) (tokens_of p) (c ∷ [])
+pub has-group : (o : Token) (p : Phrase) (c : Token) → IsRead p → IsPhrase (group o p c) → (fs : List Frame) → steps (wants fs) (tokens_of (group o p c)) ≡ has (tree_of (group o p c)) fs
+has-group o p c read h fs =
+    (steps-append (step o (wants fs)) (tokens_of p) (c ∷ [])
         ∙ ap (λ k. step c (steps (begun k o fs) (tokens_of p))) (start_of-group o h.0)
         ∙ in-brackets in_group fs p read tt refl c (end-group c h.2)
         ∙ rw h.2 refl)
 
-read-call : (f o : Token) (p : Phrase) (c : Token) → IsRead p → IsPhrase (call f o p c) → IsRead (call f o p c)
-read-call f o p c read h fs holds =
-    ended_at fs _ _ _ (steps-append (step o (step f (wants fs))) (tokens_of p) (c ∷ [])
+read-group : (o : Token) (p : Phrase) (c : Token) → IsRead p → IsPhrase (group o p c) → IsRead (group o p c)
+read-group o p c read h fs holds = ended_at fs _ _ _ (has-group o p c read h fs)
+
+pub has-call : (f o : Token) (p : Phrase) (c : Token) → IsRead p → IsPhrase (call f o p c) → (fs : List Frame) → steps (wants fs) (tokens_of (call f o p c)) ≡ has (tree_of (call f o p c)) fs
+has-call f o p c read h fs =
+    (steps-append (step o (step f (wants fs))) (tokens_of p) (c ∷ [])
         ∙ ap (λ k. step c (steps (step o (begun k f fs)) (tokens_of p))) (start_of-function f h.0)
         ∙ ap (λ (k : Bool). step c (steps (if k then wants (in_call f ∷ fs) else failed) (tokens_of p))) h.1
         ∙ in-brackets (in_call f) fs p read tt refl c (end-group c h.3)
         ∙ rw h.3 refl)
+
+read-call : (f o : Token) (p : Phrase) (c : Token) → IsRead p → IsPhrase (call f o p c) → IsRead (call f o p c)
+read-call f o p c read h fs holds = ended_at fs _ _ _ (has-call f o p c read h fs)
 
 -- a name and its `[`
 pub opened-select : (id o : Token) (fs : List Frame) → is_identifier id ≡ true → Is (codes "[") o → step o (step id (wants fs)) ≡ wants (in_select id o ∷ fs)
 opened-select id o fs h k =
     ap (λ j. step o (begun j id fs)) (start_of-name id h) ∙ rw k refl
 
-read-selected : (id o : Token) (p : Phrase) (c : Token) → IsRead p → IsPhrase (selected id o p c) → IsRead (selected id o p c)
-read-selected id o p c read h fs holds =
-    ended_at fs _ _ _ (steps-append (step o (step id (wants fs))) (tokens_of p) (c ∷ [])
+pub has-selected : (id o : Token) (p : Phrase) (c : Token) → IsRead p → IsPhrase (selected id o p c) → (fs : List Frame) → steps (wants fs) (tokens_of (selected id o p c)) ≡ has (tree_of (selected id o p c)) fs
+has-selected id o p c read h fs =
+    (steps-append (step o (step id (wants fs))) (tokens_of p) (c ∷ [])
         ∙ ap (λ k. step c (steps k (tokens_of p))) (opened-select id o fs h.0 h.1)
         ∙ in-brackets (in_select id o) fs p read tt refl c (end-select c h.3)
         ∙ rw (not_this (codes "]") (codes ":") c h.3 refl, not_this (codes "]") (codes "+:") c h.3 refl, not_this (codes "]") (codes "-:") c h.3 refl, h.3) refl)
+
+read-selected : (id o : Token) (p : Phrase) (c : Token) → IsRead p → IsPhrase (selected id o p c) → IsRead (selected id o p c)
+read-selected id o p c read h fs holds = ended_at fs _ _ _ (has-selected id o p c read h fs)
 
 -- behind the first expression of a select
 pub between-step : (w : Between) (id o : Token) (fs : List Frame) (p : Phrase) → IsRead p → (between : Token) → Is (between_text w) between
@@ -188,14 +197,18 @@ between-step up_from id o fs p read t h = in-brackets (in_select id o) fs p read
 between-step down_from id o fs p read t h = in-brackets (in_select id o) fs p read tt refl t (end-down t h)
     ∙ rw (not_this (codes "-:") (codes ":") t h refl, not_this (codes "-:") (codes "+:") t h refl, h) refl
 
-read-ranged : (w : Between) (id o : Token) (p : Phrase) (between : Token) (q : Phrase) (c : Token) → IsRead p → IsRead q
-    → IsPhrase (ranged w id o p between q c) → IsRead (ranged w id o p between q c)
-read-ranged w id o p between q c read_p read_q h fs holds =
-    ended_at fs _ _ _ (steps-append (wants fs) (id ∷ o ∷ tokens_of p ++ between ∷ tokens_of q) (c ∷ [])
+pub has-ranged : (w : Between) (id o : Token) (p : Phrase) (between : Token) (q : Phrase) (c : Token) → IsRead p → IsRead q
+    → IsPhrase (ranged w id o p between q c) → (fs : List Frame) → steps (wants fs) (tokens_of (ranged w id o p between q c)) ≡ has (tree_of (ranged w id o p between q c)) fs
+has-ranged w id o p between q c read_p read_q h fs =
+    (steps-append (wants fs) (id ∷ o ∷ tokens_of p ++ between ∷ tokens_of q) (c ∷ [])
         ∙ ap (step c) (steps-append (step o (step id (wants fs))) (tokens_of p) (between ∷ tokens_of q))
         ∙ ap (λ k. step c (steps (step between (steps k (tokens_of p))) (tokens_of q))) (opened-select id o fs h.0 h.1)
         ∙ ap (λ k. step c (steps k (tokens_of q))) (between-step w id o fs p read_p between h.3)
         ∙ in-brackets (in_range w id o (tree_of p)) fs q read_q tt refl c (end-select c h.5) ∙ rw h.5 refl)
+
+read-ranged : (w : Between) (id o : Token) (p : Phrase) (between : Token) (q : Phrase) (c : Token) → IsRead p → IsRead q
+    → IsPhrase (ranged w id o p between q c) → IsRead (ranged w id o p between q c)
+read-ranged w id o p between q c read_p read_q h fs holds = ended_at fs _ _ _ (has-ranged w id o p between q c read_p read_q h fs)
 
 -- ---- operators
 
@@ -348,22 +361,25 @@ braces-frame o = record { holds = λ ys fs s. tt; rests = λ ys fs x. refl; goes
 pub parts-frame : (o : Token) (n : Expr) → IsListFrame (in_parts o n)
 parts-frame o n = record { holds = λ ys fs s. tt; rests = λ ys fs x. refl; goes_on = λ c h ys fs x. rw h refl }
 
-read-concat : (o : Token) (ps : Phrases) (c : Token) → IsListRead ps → IsPhrase (concat o ps c) → IsRead (concat o ps c)
-read-concat o ps c read h fs holds =
+pub has-concat : (o : Token) (ps : Phrases) (c : Token) → IsListRead ps → IsPhrase (concat o ps c) → (fs : List Frame) → steps (wants fs) (tokens_of (concat o ps c)) ≡ has (tree_of (concat o ps c)) fs
+has-concat o ps c read h fs =
     let ended = read (in_braces o) (braces-frame o) [] fs in
-    ended_at fs _ _ _ (steps-append (step o (wants fs)) (all_tokens_of ps) (c ∷ [])
+    (steps-append (step o (wants fs)) (all_tokens_of ps) (c ∷ [])
         ∙ ap (λ k. step c (steps (begun k o fs) (all_tokens_of ps))) (start_of-brace o h.0)
         ∙ list-end c (end-brace c h.2) (in_braces o) fs (trees_of ps) _ ended
         ∙ rw (not_this (codes "}") (codes "{") c h.2 refl, not_this (codes "}") (codes ",") c h.2 refl, h.2) refl
         ∙ ap (λ all. has (e.Concat o.place all) fs) ended.all_are)
 
-read-repeat : (o : Token) (p : Phrase) (i : Token) (ps : Phrases) (d c : Token) → IsRead p → IsListRead ps
-    → IsPhrase (repeat o p i ps d c) → IsRead (repeat o p i ps d c)
-read-repeat o p i ps d c read read_list h fs holds =
+read-concat : (o : Token) (ps : Phrases) (c : Token) → IsListRead ps → IsPhrase (concat o ps c) → IsRead (concat o ps c)
+read-concat o ps c read h fs holds = ended_at fs _ _ _ (has-concat o ps c read h fs)
+
+pub has-repeat : (o : Token) (p : Phrase) (i : Token) (ps : Phrases) (d c : Token) → IsRead p → IsListRead ps
+    → IsPhrase (repeat o p i ps d c) → (fs : List Frame) → steps (wants fs) (tokens_of (repeat o p i ps d c)) ≡ has (tree_of (repeat o p i ps d c)) fs
+has-repeat o p i ps d c read read_list h fs =
     let ended = read_list (in_parts o (tree_of p)) (parts-frame o (tree_of p)) [] fs in
     let done : step d (steps (wants (in_parts o (tree_of p) [] ∷ fs)) (all_tokens_of ps)) ≡ wants_brace (e.Repeat o.place (tree_of p) (ended.before ++ ended.last ∷ [])) fs =
         list-end d (end-brace d h.4) (in_parts o (tree_of p)) fs (trees_of ps) _ ended ∙ rw (not_this (codes "}") (codes ",") d h.4 refl, h.4) refl in
-    ended_at fs _ _ _ (steps-append (wants fs) (o ∷ tokens_of p ++ i ∷ all_tokens_of ps) (d ∷ c ∷ [])
+    (steps-append (wants fs) (o ∷ tokens_of p ++ i ∷ all_tokens_of ps) (d ∷ c ∷ [])
         ∙ ap (λ k. step c (step d k)) (steps-append (step o (wants fs)) (tokens_of p) (i ∷ all_tokens_of ps))
         ∙ ap (λ k. step c (step d (steps (step i (steps (begun k o fs) (tokens_of p))) (all_tokens_of ps)))) (start_of-brace o h.0)
         ∙ ap (λ k. step c (step d (steps k (all_tokens_of ps))))
@@ -371,6 +387,10 @@ read-repeat o p i ps d c read read_list h fs holds =
         ∙ ap (step c) done
         ∙ ap (λ (k : Bool). if k then has (e.Repeat o.place (tree_of p) (ended.before ++ ended.last ∷ [])) fs else failed) h.5
         ∙ ap (λ all. has (e.Repeat o.place (tree_of p) all) fs) ended.all_are)
+
+read-repeat : (o : Token) (p : Phrase) (i : Token) (ps : Phrases) (d c : Token) → IsRead p → IsListRead ps
+    → IsPhrase (repeat o p i ps d c) → IsRead (repeat o p i ps d c)
+read-repeat o p i ps d c read read_list h fs holds = ended_at fs _ _ _ (has-repeat o p i ps d c read read_list h fs)
 
 -- ---- every phrase
 

@@ -10,3 +10,4 @@ mod Inners
 mod Operators
 mod Levels
 mod Final
+mod Primaries

@@ -1,0 +1,153 @@
+-- What reading gives for operands without signs.
+use Rattle.std.proofs.Common.{◌≡◌, ◌∙◌, ◌⊎◌, inl, inr, ℕ, zero, suc, ◌+◌, ◌-◌, ◌<◌, ◌≤◌, ◌==◌, Bool, true, false, nat_le, List, [], ◌∷◌, ◌++◌, length, Option, Some, None, Result, Ok, Err, refl, sym, ap, subst, arith, codes, append_assoc, append-nil, length-append, if◌then◌else◌}
+use Rattle.std.proofs.lemmas.Bool.{le-leb, lt-leb, ne_eqb}
+use Rattle.sv_lexer.specs.declared.token.Token.{Token}
+use Rattle.sv_lexer.specs.declared.token.TokenKind.TheVariants as kind
+use Rattle.sv_base.specs.declared.refusal.Place.{Place}
+use Rattle.sv_ast.specs.declared.expression.Id.{Id}
+use Rattle.sv_ast.specs.declared.expression.Sel.{Sel}
+use Rattle.sv_ast.specs.declared.expression.Sel.TheVariants as sel
+use Rattle.sv_ast.specs.declared.expression.Expr.{Expr}
+use Rattle.sv_ast.specs.declared.expression.Expr.TheVariants as e
+use Rattle.expr_parser.specs.declared.fault.ParseFault.TheVariants.{Refused}
+use Rattle.expr_parser.specs.Outcome.{nesting_refusal}
+use Rattle.expr_parser.specs.Spelling.{is_this, is_unary, is_identifier, is_function, is_number, is_fill, precedence, binds}
+use Rattle.expr_parser.specs.Grammar.{Between, down_to, up_from, down_from, Phrase, number, fill, name, selected, ranged, group, concat, repeat, call, Phrases, only, more, tokens_of, all_tokens_of, tree_of, trees_of, id_of, range_of, between_text, Is, IsPhrase, ArePhrases, strength}
+use Rattle.expr_parser.specs.Nesting.{nesting, nestings, operators, in_brackets, one_after, greatest_nesting}
+use Rattle.expr_parser.specs.Input.{Input, Outcome, Parser, past_marks, front_of, after, next, ahead, sees, and_then, rise, take_id, refusal, refuse, expect}
+use Rattle.expr_parser.specs.Reading.{opening, whole, select, select_from, selects, read, parenthesised, system, primary, primary_by}
+use Rattle.expr_parser.proofs.Machine.{Frame, under_sign, behind_left, in_first, in_second, in_group, in_call, in_select, in_range, in_braces, in_parts, State, wants, wants_argument, has_name, has, failed, reduce, closed, went_on, begun, step, steps, operand_of, start_of, start_by, no_start}
+use Rattle.expr_parser.proofs.Took.{Took, Took-none, Took-then}
+use Rattle.expr_parser.proofs.Roles.{not_this, binds-this, binds-small, start_of-name, start_of-function, start_of-number, start_of-fill, start_of-group}
+use Rattle.expr_parser.proofs.Complete.{Holds, steps-append, reads_phrase, opened-select, between-step, has-group, has-call, has-selected, has-ranged}
+use Rattle.expr_parser.proofs.Spot.{Fits, IsFinal, Judged, judged_then, Spot, Inner, inside, cases_le}
+use Rattle.expr_parser.proofs.Part.{Next, Part, Good, spare, deep_at, stuck_at, risen, spot-small, judged_expect, judged_take, sees-yes, sees-no, Took-after, after-last, after-nested}
+use Rattle.expr_parser.proofs.Inners.{nesting-zero, in_brackets-at, one_after-first, one_after-second, one_shallow, two_shallow}
+use Rattle.expr_parser.proofs.Operators.{IsReader, IsOperand, whole_fails, whole_unfinished}
+use Rattle.expr_parser.proofs.Levels.{PrimaryIs, NoSign, IsWhole, judged_whole}
+
+-- ---- signs that stand for any
+
+abbrev sign_token : List ℕ → Token
+sign_token text = record { kind = kind.Sign; text = text; place = record { file = 0; line = 0 } }
+
+close_group_is : Is (codes ")") (sign_token (codes ")"))
+unfolding is_this
+close_group_is = refl
+
+open_group_is : Is (codes "(") (sign_token (codes "("))
+unfolding is_this
+open_group_is = refl
+
+close_select_is : Is (codes "]") (sign_token (codes "]"))
+unfolding is_this
+close_select_is = refl
+
+-- ---- operands that the machine has
+
+select-none : precedence (codes "[") ≡ 0
+unfolding precedence
+select-none = refl
+
+closed-select : (t : Token) → Is (codes "[") t → (x : Expr) (fs : List Frame) → closed t x fs ≡ failed
+closed-select t h x [] = refl
+closed-select t h x (under_sign s ∷ fs) = refl
+closed-select t h x (behind_left l s ∷ fs) = refl
+closed-select t h x (in_first c q ∷ fs) = rw (not_this (codes "[") (codes ":") t h refl) refl
+closed-select t h x (in_second c q m ∷ fs) = refl
+closed-select t h x (in_group ∷ fs) = rw (not_this (codes "[") (codes ")") t h refl) refl
+closed-select t h x (in_call f ∷ fs) = rw (not_this (codes "[") (codes ")") t h refl) refl
+closed-select t h x (in_select id o ∷ fs) =
+    rw (not_this (codes "[") (codes ":") t h refl, not_this (codes "[") (codes "+:") t h refl, not_this (codes "[") (codes "-:") t h refl, not_this (codes "[") (codes "]") t h refl) refl
+closed-select t h x (in_range w id o a ∷ fs) = rw (not_this (codes "[") (codes "]") t h refl) refl
+closed-select t h x (in_braces o ys ∷ fs) =
+    rw (not_this (codes "[") (codes "{") t h refl, not_this (codes "[") (codes ",") t h refl, not_this (codes "[") (codes "}") t h refl) refl
+closed-select t h x (in_parts o n ys ∷ fs) = rw (not_this (codes "[") (codes ",") t h refl, not_this (codes "[") (codes "}") t h refl) refl
+
+-- behind an operand that is no name stands no select
+select_fails : (t : Token) → Is (codes "[") t → (x : Expr) (fs : List Frame) → step t (has x fs) ≡ failed
+select_fails t h x fs =
+    let none : binds t ≡ 0 = binds-this (codes "[") t h ∙ select-none in
+    let plain : went_on t x fs ≡ closed t (reduce 0 fs x).0 (reduce 0 fs x).1 = rw (none, not_this (codes "[") (codes "?") t h refl) refl in
+    plain ∙ closed-select t h (reduce 0 fs x).0 (reduce 0 fs x).1
+
+pub primary_at : (fs : List Frame) (i : Input) (p : Phrase) → IsPhrase p → (tree : Expr) → tree_of p ≡ tree → strength p ≡ 14 → operators p ≡ 0 → (k : Input)
+    → Took i.rest k.rest (tokens_of p) → k.last ≡ i.last → k.nested ≡ i.nested → i.nested ≤ greatest_nesting
+    → ((m : ℕ) → m ≤ length (tokens_of p) → i.nested + nesting p m ≤ greatest_nesting)
+    → ((t : Token) → Next k.rest t → is_this (codes "[") t ≡ true → step t (steps (wants fs) (tokens_of p)) ≡ failed)
+    → IsOperand fs i tree k
+primary_at fs i p h tree tree_is strong none k took last count small shallow select = record {
+    part = record {
+      phrase = p;
+      in_grammar = h;
+      tree_is = tree_is;
+      took = took;
+      last_is = last;
+      nested_is = omega (arith, count, none);
+      small = omega (arith, count, small);
+      shallow = shallow;
+      binds_less = λ t is_next. let at = binds-small t in omega (arith, at, strong);
+      no_select = select;
+    };
+    strong = omega (arith, strong);
+  }
+
+-- ---- brackets
+
+brackets_beyond : (len : ℕ) (f : ℕ → ℕ) (n : ℕ) → 1 + len < n → in_brackets len f n ≡ 0
+brackets_beyond len f n h =
+    let some : (n == 0) ≡ false = ne_eqb n 0 (omega arith) in
+    let beyond : nat_le n (1 + len) ≡ false = lt-leb n (1 + len) (omega arith) in
+    rw (some, beyond) refl
+
+pub brackets_shallow : (base len : ℕ) (f : ℕ → ℕ) → base ≤ greatest_nesting → ((m : ℕ) → m ≤ len → base + 1 + f m ≤ greatest_nesting)
+    → (n : ℕ) → base + in_brackets len f n ≤ greatest_nesting
+brackets_shallow base len f small low zero = omega arith
+brackets_shallow base len f small low (suc n) =
+    elim (cases_le n len) [
+      inl within ↦
+        let at : suc n ≡ 1 + n = omega arith in
+        let here = in_brackets-at len f n within in
+        let fine = low n within in
+        let P : ℕ → Type 0 = λ x. base + in_brackets len f x ≤ greatest_nesting in
+        subst P (sym at) (omega (arith, here, fine))
+    | inr beyond ↦ let here = brackets_beyond len f (suc n) (omega arith) in omega (arith, here)
+    ]
+
+joined : {B : Type 0} (top : Input) (good : B → Input → Type 0) (o : Outcome (Unit {0})) (f : Id → Parser B)
+    → Judged top good (and_then o (λ _ i1. and_then (take_id i1) f)) → Judged top good (and_then (and_then o (λ _. take_id)) f)
+joined top good (Ok p) f h = h
+joined top good (Err e) f h = h
+
+sees-there : (text : List ℕ) (i : Input) (t : Token) → Next i.rest t → is_this text t ≡ true → sees text i ≡ true
+unfolding sees next ahead
+sees-there text i t is_next is = rw is_next is
+
+-- an opening bracket is read where it stands
+pub opened : {B : Type 0} (top i : Input) (text : List ℕ) (t : Token) (good : B → Input → Type 0) (f : Id → Parser B) → Next i.rest t → is_this text t ≡ true
+    → (greatest_nesting ≤ i.nested → IsFinal top (Refused (nesting_refusal t)))
+    → ((j : Input) → Took i.rest j.rest (t ∷ []) → j.last ≡ i.last → j.nested ≡ i.nested + 1 → j.nested ≤ greatest_nesting → Judged top good (f (id_of t) j))
+    → Judged top good (and_then (opening text i) f)
+opened top i text t good f is_next is deep k =
+    let P : Bool → Type 0 = λ c. Judged top good (and_then (if c then and_then (rise i) (λ _. take_id) else refuse i) f) in
+    subst P (sym (sees-there text i t is_next is)) (joined top good (rise i) f (risen top i t good f is_next deep k))
+
+-- ---- what is in parentheses
+
+pub inner-group : (least : ℕ) (i : Input) (fs : List Frame) (o : Token) (j : Input) → least ≤ 12 → Is (codes "(") o
+    → Took i.rest j.rest (o ∷ []) → j.last ≡ i.last → j.nested ≡ i.nested + 1 → i.nested + 1 ≤ greatest_nesting → Inner least i fs 0 j (in_group ∷ fs)
+inner-group least i fs o j small is took last count fine = record {
+    before = o ∷ [];
+    after_it = sign_token (codes ")") ∷ [];
+    wrap = λ q. group o q (sign_token (codes ")"));
+    tokens = λ q. refl;
+    grammar = λ q h f. (is, h, close_group_is);
+    fits = λ q f some. omega arith;
+    nest = λ q m le. ap (λ x. i.nested + x) (in_brackets-at (length (tokens_of q)) (nesting q) m le) ∙ omega (arith, count);
+    shallow = λ q k le. one_shallow i.nested (in_brackets (length (tokens_of q)) (nesting q)) refl
+        (in_brackets-at (length (tokens_of q)) (nesting q) 0 (omega arith) ∙ ap (λ x. 1 + x) (nesting-zero q)) fine k le;
+    took = took;
+    last_is = last;
+    state = ap (λ k. begun k o fs) (start_of-group o is);
+    holds = λ q f. tt;
+  }
