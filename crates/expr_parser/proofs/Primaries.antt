@@ -151,3 +151,105 @@ inner-group least i fs o j small is took last count fine = record {
     state = ap (λ k. begun k o fs) (start_of-group o is);
     holds = λ q f. tt;
   }
+
+-- ---- a whole expression in brackets
+
+pub whole_took : (fs : List Frame) (i : Input) (tree : Expr) (k : Input) → (w : IsWhole fs i tree k) → Took i.rest k.rest (tokens_of w.good.part.phrase)
+whole_took fs i tree k w = let P : Input → Type 0 = λ z. Took i.rest z.rest (tokens_of w.good.part.phrase) in subst P (sym w.is) w.good.part.took
+
+whole_next : (fs : List Frame) (i : Input) (tree : Expr) (k : Input) → (w : IsWhole fs i tree k) → (t : Token) → Next k.rest t → Next w.there.rest t
+whole_next fs i tree k w t h = let P : Input → Type 0 = λ z. Next z.rest t in subst P w.is h
+
+pub whole_last : (fs : List Frame) (i : Input) (tree : Expr) (k : Input) → (w : IsWhole fs i tree k) → k.last ≡ i.last
+whole_last fs i tree k w = ap (λ z. z.last) w.is ∙ w.good.part.last_is
+
+pub whole_nested : (fs : List Frame) (i : Input) (tree : Expr) (k : Input) → (w : IsWhole fs i tree k) → k.nested ≡ i.nested
+whole_nested fs i tree k w = ap (λ z. z.nested) w.is
+
+-- no token that may stand behind the expression comes next
+pub whole_stuck : (top j : Input) (f : Frame) (fs : List Frame) → Spot top 0 j (f ∷ fs) → (tree : Expr) (k : Input) (w : IsWhole (f ∷ fs) j tree k)
+    → Holds (f ∷ fs) (strength w.good.part.phrase) → reduce 0 (f ∷ fs) (tree_of w.good.part.phrase) ≡ (tree_of w.good.part.phrase, f ∷ fs)
+    → ((t : Token) → Next k.rest t → closed t (tree_of w.good.part.phrase) (f ∷ fs) ≡ failed) → IsFinal top (refusal k)
+whole_stuck top j f fs s tree k w holds rests ends =
+    let g = w.good in
+    let q = g.part.phrase in
+    stuck_at top 0 j (f ∷ fs) s k q (tokens_of q) [] g.part.in_grammar g.fits (sym (append-nil (tokens_of q))) (whole_took (f ∷ fs) j tree k w) (whole_last (f ∷ fs) j tree k w) g.part.shallow
+      (λ t t_next. let there = whole_next (f ∷ fs) j tree k w t t_next in
+          whole_fails f fs q g.part.in_grammar holds rests t (g.stops t there) (g.no_question refl t there) (g.part.no_select t there) (ends t t_next))
+      (whole_unfinished f fs q g.part.in_grammar holds rests)
+
+-- what a call that reads parentheses gives
+pub record IsParen (f : Frame) (fs : List Frame) (o : Token) (i : Input) (tree : Expr) (k : Input) : Type 0 where
+  pub there : Input
+  pub took_open : Took i.rest there.rest (o ∷ [])
+  pub last_open : there.last ≡ i.last
+  pub count : there.nested ≡ i.nested + 1
+  pub end : Input
+  pub inside_it : IsWhole (f ∷ fs) there tree end
+  pub close : Token
+  pub close_is : Is (codes ")") close
+  pub took_close : Took end.rest k.rest (close ∷ [])
+  pub last_close : k.last ≡ end.last
+  pub nested_is : k.nested ≡ i.nested
+
+pub judged_paren : (top : Input) (expr : ℕ → Parser Expr) (depth : ℕ) → IsReader top expr depth → (least : ℕ) (i : Input) (fs : List Frame) → Spot top least i fs
+    → greatest_nesting + 1 ≤ i.nested + suc depth → (j0 : Input) → j0.nested ≡ i.nested → (f : Frame) → ((y : Expr) → reduce 0 (f ∷ fs) y ≡ (y, f ∷ fs)) → ((x : ℕ) → Holds (f ∷ fs) x)
+    → ((t : Token) (y : Expr) → is_this (codes ")") t ≡ false → closed t y (f ∷ fs) ≡ failed)
+    → (o : Token) → Next j0.rest o → Is (codes "(") o → (greatest_nesting ≤ j0.nested → IsFinal top (Refused (nesting_refusal o)))
+    → ((j : Input) → Took j0.rest j.rest (o ∷ []) → j.last ≡ j0.last → j.nested ≡ j0.nested + 1 → j.nested ≤ greatest_nesting → Inner least i fs 0 j (f ∷ fs))
+    → Judged top (IsParen f fs o j0) (parenthesised expr j0)
+unfolding parenthesised
+judged_paren top expr depth reader least i fs s enough j0 same f rests holds ends o o_next o_is deep mk =
+    opened top j0 (codes "(") o (IsParen f fs o j0) _ o_next o_is deep
+      (λ j took last count within.
+        let n = mk j took last count within in
+        let spot = inside top least i fs 0 j (f ∷ fs) s n in
+        judged_then top (IsWhole (f ∷ fs) j) (IsParen f fs o j0) (whole expr j) _ (judged_whole top expr depth reader j (f ∷ fs) spot (omega (arith, count, same)))
+          (λ x k w.
+            judged_then top (λ _ m. (m ≡ after k) × ((c : Token) × (Next k.rest c × (is_this (codes ")") c ≡ true)))) (IsParen f fs o j0) (expect (codes ")") k) _
+              (judged_expect top k (codes ")") (λ no. whole_stuck top j f fs spot x k w (holds (strength w.good.part.phrase)) (rests (tree_of w.good.part.phrase)) (λ t t_next. ends t _ (no t t_next))))
+              (λ _ m found. record {
+                  there = j;
+                  took_open = took;
+                  last_open = last;
+                  count = count;
+                  end = k;
+                  inside_it = w;
+                  close = found.1.0;
+                  close_is = found.1.1.1;
+                  took_close = let P : Input → Type 0 = λ z. Took k.rest z.rest (found.1.0 ∷ []) in subst P (sym found.0) (Took-after k found.1.0 found.1.1.0);
+                  last_close = ap (λ z. z.last) found.0 ∙ after-last k;
+                  nested_is = refl;
+                })))
+
+-- nothing was read, so nothing is open
+one_shallow_none : (i : Input) (p : Phrase) → nesting p 0 ≡ 0 → i.nested ≤ greatest_nesting → (k : ℕ) → k ≤ 0 → i.nested + nesting p k ≤ greatest_nesting
+one_shallow_none i p none fine k le =
+    let at : k ≡ 0 = omega arith in let P : ℕ → Type 0 = λ x. i.nested + nesting p x ≤ greatest_nesting in subst P (sym at) (omega (arith, none))
+
+group_ends : (fs : List Frame) (t : Token) (y : Expr) → is_this (codes ")") t ≡ false → closed t y (in_group ∷ fs) ≡ failed
+group_ends fs t y h = rw h refl
+
+-- "(" expr ")"
+pub judged_group : (top : Input) (expr : ℕ → Parser Expr) (depth : ℕ) → IsReader top expr depth → (least : ℕ) → least ≤ 12 → (i : Input) (fs : List Frame) → Spot top least i fs
+    → greatest_nesting + 1 ≤ i.nested + suc depth → (o : Token) → Next i.rest o → Is (codes "(") o → Judged top (IsParen in_group fs o i) (parenthesised expr i)
+judged_group top expr depth reader least small i fs s enough o o_next o_is =
+    let fine = spot-small top least i fs s in
+    let over = group o (number spare) (sign_token (codes ")")) in
+    judged_paren top expr depth reader least i fs s enough i refl in_group (λ y. refl) (λ x. tt) (group_ends fs) o o_next o_is
+      (λ full. deep_at top least i fs s i over [] o (spare ∷ sign_token (codes ")") ∷ []) (o_is, refl, close_group_is) (λ some. omega arith) refl (Took-none i.rest) o_next
+          (λ k le. one_shallow_none i over refl fine k le)
+          (let one = in_brackets-at 1 (nesting (number spare)) 0 (omega arith) in omega (arith, one)))
+      (λ j took last count within. inner-group least i fs o j small o_is took last count (omega (arith, count, within)))
+
+group_operand : (least : ℕ) (i : Input) (fs : List Frame) → i.nested ≤ greatest_nesting → (o : Token) → Is (codes "(") o → (x : Expr) (k : Input) → IsParen in_group fs o i x k → IsOperand fs i x k
+group_operand least i fs fine o o_is x k p =
+    let g = p.inside_it.good in
+    let q = g.part.phrase in
+    let whole_phrase = group o q p.close in
+    let h : IsPhrase whole_phrase = (o_is, g.part.in_grammar, p.close_is) in
+    primary_at fs i whole_phrase h x g.part.tree_is refl refl k
+      (Took-then i.rest p.end.rest k.rest (o ∷ tokens_of q) (p.close ∷ []) (Took-then i.rest p.there.rest p.end.rest (o ∷ []) (tokens_of q) p.took_open (whole_took (in_group ∷ fs) p.there x p.end p.inside_it)) p.took_close)
+      (p.last_close ∙ whole_last (in_group ∷ fs) p.there x p.end p.inside_it ∙ p.last_open) p.nested_is fine
+      (λ m le. brackets_shallow i.nested (length (tokens_of q)) (nesting q) fine (λ n within. let low = g.part.shallow n within in omega (arith, low, p.count)) m)
+      (λ t t_next is. ap (step t) (has-group o q p.close (reads_phrase q g.part.in_grammar) h fs) ∙ select_fails t is (tree_of q) fs)
