@@ -11,3 +11,4 @@ mod Operators
 mod Levels
 mod Final
 mod Primaries
+mod Selects

@@ -28,18 +28,18 @@ use Rattle.expr_parser.proofs.Levels.{PrimaryIs, NoSign, IsWhole, judged_whole}
 
 -- ---- signs that stand for any
 
-abbrev sign_token : List ℕ → Token
+abbrev pub sign_token : List ℕ → Token
 sign_token text = record { kind = kind.Sign; text = text; place = record { file = 0; line = 0 } }
 
-close_group_is : Is (codes ")") (sign_token (codes ")"))
+pub close_group_is : Is (codes ")") (sign_token (codes ")"))
 unfolding is_this
 close_group_is = refl
 
-open_group_is : Is (codes "(") (sign_token (codes "("))
+pub open_group_is : Is (codes "(") (sign_token (codes "("))
 unfolding is_this
 open_group_is = refl
 
-close_select_is : Is (codes "]") (sign_token (codes "]"))
+pub close_select_is : Is (codes "]") (sign_token (codes "]"))
 unfolding is_this
 close_select_is = refl
 
@@ -65,7 +65,7 @@ closed-select t h x (in_braces o ys ∷ fs) =
 closed-select t h x (in_parts o n ys ∷ fs) = rw (not_this (codes "[") (codes ",") t h refl, not_this (codes "[") (codes "}") t h refl) refl
 
 -- behind an operand that is no name stands no select
-select_fails : (t : Token) → Is (codes "[") t → (x : Expr) (fs : List Frame) → step t (has x fs) ≡ failed
+pub select_fails : (t : Token) → Is (codes "[") t → (x : Expr) (fs : List Frame) → step t (has x fs) ≡ failed
 select_fails t h x fs =
     let none : binds t ≡ 0 = binds-this (codes "[") t h ∙ select-none in
     let plain : went_on t x fs ≡ closed t (reduce 0 fs x).0 (reduce 0 fs x).1 = rw (none, not_this (codes "[") (codes "?") t h refl) refl in
@@ -112,6 +112,31 @@ brackets_shallow base len f small low (suc n) =
         let P : ℕ → Type 0 = λ x. base + in_brackets len f x ≤ greatest_nesting in
         subst P (sym at) (omega (arith, here, fine))
     | inr beyond ↦ let here = brackets_beyond len f (suc n) (omega arith) in omega (arith, here)
+    ]
+
+-- the same up to a place inside
+pub brackets_shallow_to : (base len : ℕ) (f : ℕ → ℕ) → base ≤ greatest_nesting → (most : ℕ) → most ≤ len → ((m : ℕ) → m ≤ most → base + 1 + f m ≤ greatest_nesting)
+    → (n : ℕ) → n ≤ 1 + most → base + in_brackets len f n ≤ greatest_nesting
+brackets_shallow_to base len f small most short low zero le = omega arith
+brackets_shallow_to base len f small most short low (suc n) le =
+    let at : suc n ≡ 1 + n = omega arith in
+    let here = in_brackets-at len f n (omega arith) in
+    let fine = low n (omega arith) in
+    let P : ℕ → Type 0 = λ x. base + in_brackets len f x ≤ greatest_nesting in
+    subst P (sym at) (omega (arith, here, fine))
+
+-- two expressions with a token between
+pub range_shallow : (base len : ℕ) (f g : ℕ → ℕ) (other : ℕ) → ((m : ℕ) → m ≤ len → base + f m ≤ greatest_nesting) → ((m : ℕ) → m ≤ other → base + g m ≤ greatest_nesting)
+    → (n : ℕ) → n ≤ len + 1 + other → base + one_after len f g n ≤ greatest_nesting
+range_shallow base len f g other low high n le =
+    elim (cases_le n len) [
+      inl short ↦ let here = one_after-first len f g n short in let fine = low n short in omega (arith, here, fine)
+    | inr long ↦
+        let at : n ≡ len + (1 + (n - len - 1)) = omega arith in
+        let here = one_after-second len f g (n - len - 1) in
+        let fine = high (n - len - 1) (omega arith) in
+        let P : ℕ → Type 0 = λ x. base + one_after len f g x ≤ greatest_nesting in
+        subst P (sym at) (omega (arith, here, fine))
     ]
 
 joined : {B : Type 0} (top : Input) (good : B → Input → Type 0) (o : Outcome (Unit {0})) (f : Id → Parser B)
@@ -223,7 +248,7 @@ judged_paren top expr depth reader least i fs s enough j0 same f rests holds end
                 })))
 
 -- nothing was read, so nothing is open
-one_shallow_none : (i : Input) (p : Phrase) → nesting p 0 ≡ 0 → i.nested ≤ greatest_nesting → (k : ℕ) → k ≤ 0 → i.nested + nesting p k ≤ greatest_nesting
+pub one_shallow_none : (i : Input) (p : Phrase) → nesting p 0 ≡ 0 → i.nested ≤ greatest_nesting → (k : ℕ) → k ≤ 0 → i.nested + nesting p k ≤ greatest_nesting
 one_shallow_none i p none fine k le =
     let at : k ≡ 0 = omega arith in let P : ℕ → Type 0 = λ x. i.nested + nesting p x ≤ greatest_nesting in subst P (sym at) (omega (arith, none))
 
@@ -253,3 +278,105 @@ group_operand least i fs fine o o_is x k p =
       (p.last_close ∙ whole_last (in_group ∷ fs) p.there x p.end p.inside_it ∙ p.last_open) p.nested_is fine
       (λ m le. brackets_shallow i.nested (length (tokens_of q)) (nesting q) fine (λ n within. let low = g.part.shallow n within in omega (arith, low, p.count)) m)
       (λ t t_next is. ap (step t) (has-group o q p.close (reads_phrase q g.part.in_grammar) h fs) ∙ select_fails t is (tree_of q) fs)
+
+-- ---- a system function
+
+pub no_operand : (p : Expr × List Frame) → None ≡ Some p → ⊥
+no_operand p h = cc
+
+-- the token before a bracket counts nothing
+pub brackets_one : (base : ℕ) (f : ℕ → ℕ) → f 0 ≡ 0 → base ≤ greatest_nesting → (m : ℕ) → m ≤ 1 → base + f (m - 1) ≤ greatest_nesting
+brackets_one base f none fine m le =
+    let at : m - 1 ≡ 0 = omega arith in let P : ℕ → Type 0 = λ x. base + f x ≤ greatest_nesting in subst P (sym at) (omega (arith, none))
+
+paren_absent : {B : Type 0} (top : Input) (expr : ℕ → Parser Expr) (i : Input) (good : B → Input → Type 0) (f : Expr → Parser B) → sees (codes "(") i ≡ false → IsFinal top (refusal i)
+    → Judged top good (and_then (parenthesised expr i) f)
+unfolding parenthesised
+paren_absent top expr i good f none final =
+    let P : Bool → Type 0 = λ c. Judged top good (and_then (and_then (if c then and_then (rise i) (λ _. take_id) else refuse i)
+          (λ _ i1. and_then (whole expr i1) (λ tree i2. and_then (expect (codes ")") i2) (λ _ i3. Ok (tree, record i3 { nested = i.nested }))))) f) in
+    subst P (sym none) final
+
+inner-call : (least : ℕ) (i : Input) (fs : List Frame) (f o : Token) (j : Input) → least ≤ 12 → is_function f ≡ true → Is (codes "(") o
+    → Took i.rest j.rest (f ∷ o ∷ []) → j.last ≡ i.last → j.nested ≡ i.nested + 1 → i.nested + 1 ≤ greatest_nesting → Inner least i fs 0 j (in_call f ∷ fs)
+inner-call least i fs f o j small function is took last count fine = record {
+    before = f ∷ o ∷ [];
+    after_it = sign_token (codes ")") ∷ [];
+    wrap = λ q. call f o q (sign_token (codes ")"));
+    tokens = λ q. refl;
+    grammar = λ q h g. (function, is, h, close_group_is);
+    fits = λ q g some. omega arith;
+    nest = λ q m le.
+        let at : 2 + m - 1 ≡ 1 + m = omega arith in
+        ap (λ x. i.nested + in_brackets (length (tokens_of q)) (nesting q) x) at
+          ∙ ap (λ x. i.nested + x) (in_brackets-at (length (tokens_of q)) (nesting q) m le) ∙ omega (arith, count);
+    shallow = λ q k le. one_shallow i.nested (in_brackets (length (tokens_of q)) (nesting q)) refl
+        (in_brackets-at (length (tokens_of q)) (nesting q) 0 (omega arith) ∙ ap (λ x. 1 + x) (nesting-zero q)) fine (k - 1) (omega arith);
+    took = took;
+    last_is = last;
+    state = ap (λ k. step o (begun k f fs)) (start_of-function f function) ∙ rw is refl;
+    holds = λ q g. tt;
+  }
+
+call_ends : (f : Token) (fs : List Frame) (t : Token) (y : Expr) → is_this (codes ")") t ≡ false → closed t y (in_call f ∷ fs) ≡ failed
+call_ends f fs t y h = rw h refl
+
+system_by : (top : Input) (expr : ℕ → Parser Expr) (depth : ℕ) → IsReader top expr depth → (least : ℕ) → least ≤ 12 → (i : Input) (fs : List Frame) → Spot top least i fs
+    → greatest_nesting + 1 ≤ i.nested + suc depth → (f : Token) → Next i.rest f → is_function f ≡ true → (c : Bool) → sees (codes "(") (after i) ≡ c
+    → Judged top (IsOperand fs i) (and_then (parenthesised expr (after i)) (λ argument k. Ok (e.System (id_of f) argument, k)))
+system_by top expr depth reader least small i fs s enough f f_next function false h =
+    let state : steps (wants fs) (f ∷ []) ≡ wants_argument f fs = ap (λ k. begun k f fs) (start_of-function f function) in
+    let fine = spot-small top least i fs s in
+    let over = call f (sign_token (codes "(")) (number spare) (sign_token (codes ")")) in
+    paren_absent top expr (after i) (IsOperand fs i) (λ argument k. Ok (e.System (id_of f) argument, k)) h
+      (stuck_at top least i fs s (after i) over (f ∷ []) (sign_token (codes "(") ∷ spare ∷ sign_token (codes ")") ∷ []) (function, open_group_is, refl, close_group_is) (λ some. omega arith) refl
+        (Took-after i f f_next) (after-last i)
+        (λ m le. brackets_one i.nested (in_brackets 1 (nesting (number spare))) refl fine m le)
+        (λ t t_next. ap (step t) state ∙ rw (sees-no (codes "(") (after i) h t t_next) refl)
+        (λ x gs is none. no_operand (x, gs) (sym (ap operand_of state) ∙ is)))
+system_by top expr depth reader least small i fs s enough f f_next function true h =
+    let fine = spot-small top least i fs s in
+    let found = sees-yes (codes "(") (after i) h in
+    let o = found.0 in
+    let over = call f o (number spare) (sign_token (codes ")")) in
+    judged_then top (IsParen (in_call f) fs o (after i)) (IsOperand fs i) (parenthesised expr (after i)) (λ argument k. Ok (e.System (id_of f) argument, k))
+      (judged_paren top expr depth reader least i fs s enough (after i) (after-nested i) (in_call f) (λ y. refl) (λ x. tt) (call_ends f fs) o found.1.0 found.1.1
+        (λ full. deep_at top least i fs s (after i) over (f ∷ []) o (spare ∷ sign_token (codes ")") ∷ []) (function, found.1.1, refl, close_group_is) (λ some. omega arith) refl
+            (Took-after i f f_next) found.1.0
+            (λ m le. brackets_one i.nested (in_brackets 1 (nesting (number spare))) refl fine m le)
+            (let one = in_brackets-at 1 (nesting (number spare)) 0 (omega arith) in omega (arith, one, after-nested i, full)))
+        (λ j took last count within. inner-call least i fs f o j small function found.1.1
+            (Took-then i.rest (after i).rest j.rest (f ∷ []) (o ∷ []) (Took-after i f f_next) took) (last ∙ after-last i) (omega (arith, count, after-nested i)) (omega (arith, count, after-nested i, within))))
+      (λ x k p.
+        let g = p.inside_it.good in
+        let q = g.part.phrase in
+        let h2 : IsPhrase (call f o q p.close) = (function, found.1.1, g.part.in_grammar, p.close_is) in
+        primary_at fs i (call f o q p.close) h2 (e.System (id_of f) x) (ap (λ z. e.System (id_of f) z) g.part.tree_is) refl refl k
+          (Took-then i.rest p.end.rest k.rest (f ∷ o ∷ tokens_of q) (p.close ∷ [])
+            (Took-then i.rest p.there.rest p.end.rest (f ∷ o ∷ []) (tokens_of q) (Took-then i.rest (after i).rest p.there.rest (f ∷ []) (o ∷ []) (Took-after i f f_next) p.took_open)
+              (whole_took (in_call f ∷ fs) p.there x p.end p.inside_it)) p.took_close)
+          (p.last_close ∙ whole_last (in_call f ∷ fs) p.there x p.end p.inside_it ∙ p.last_open ∙ after-last i) (p.nested_is ∙ after-nested i) fine
+          (λ m le. brackets_shallow i.nested (length (tokens_of q)) (nesting q) fine (λ n within. let low = g.part.shallow n within in omega (arith, low, p.count, after-nested i)) (m - 1))
+          (λ t t_next is. ap (step t) (has-call f o q p.close (reads_phrase q g.part.in_grammar) h2 fs) ∙ select_fails t is (e.System (id_of f) (tree_of q)) fs))
+
+pub judged_system : (top : Input) (expr : ℕ → Parser Expr) (depth : ℕ) → IsReader top expr depth → (least : ℕ) → least ≤ 12 → (i : Input) (fs : List Frame) → Spot top least i fs
+    → greatest_nesting + 1 ≤ i.nested + suc depth → (f : Token) → Next i.rest f → is_function f ≡ true → Judged top (IsOperand fs i) (system expr i)
+unfolding system
+judged_system top expr depth reader least small i fs s enough f f_next function =
+    judged_take top (IsOperand fs i) i f _ f_next (system_by top expr depth reader least small i fs s enough f f_next function _ refl)
+
+-- ---- numbers and fills
+
+pub judged_number : (top i : Input) (fs : List Frame) → i.nested ≤ greatest_nesting → (t : Token) → Next i.rest t → t.kind ≡ kind.Number
+    → Judged top (IsOperand fs i) (and_then (take_id i) (λ x k. Ok (e.Number x, k)))
+judged_number top i fs fine t t_next is =
+    judged_take top (IsOperand fs i) i t (λ x k. Ok (e.Number x, k)) t_next
+      (primary_at fs i (number t) is (e.Number (id_of t)) refl refl refl (after i) (Took-after i t t_next) (after-last i) (after-nested i) fine (λ m le. omega arith)
+        (λ u u_next h. ap (λ k. step u (begun k t fs)) (start_of-number t is) ∙ select_fails u h (e.Number (id_of t)) fs))
+
+pub judged_fill : (top i : Input) (fs : List Frame) → i.nested ≤ greatest_nesting → (t : Token) → Next i.rest t → t.kind ≡ kind.Fill
+    → Judged top (IsOperand fs i) (and_then (take_id i) (λ x k. Ok (e.Fill x, k)))
+judged_fill top i fs fine t t_next is =
+    judged_take top (IsOperand fs i) i t (λ x k. Ok (e.Fill x, k)) t_next
+      (primary_at fs i (fill t) is (e.Fill (id_of t)) refl refl refl (after i) (Took-after i t t_next) (after-last i) (after-nested i) fine (λ m le. omega arith)
+        (λ u u_next h. ap (λ k. step u (begun k t fs)) (start_of-fill t is) ∙ select_fails u h (e.Fill (id_of t)) fs))
