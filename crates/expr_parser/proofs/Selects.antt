@@ -136,3 +136,100 @@ judged_range top expr depth reader least small i fs s enough w id o named is j t
           has_it = λ c h. has-ranged w id o p.phrase b q.phrase c (reads_phrase p.phrase p.in_grammar) (reads_phrase q.phrase q.in_grammar) (named, is, p.in_grammar, b_is, q.in_grammar, h) fs;
           stuck = λ no. whole_stuck top (after k) f fs spot y m whole_q tt refl (λ t t_next. range_ends w id o (tree_of p.phrase) fs t (tree_of q.phrase) (no t t_next));
         })
+
+not_both : {b : Bool} → b ≡ false → b ≡ true → ⊥
+not_both h k = cc
+
+select_from_by : (top : Input) (expr : ℕ → Parser Expr) (depth : ℕ) → IsReader top expr depth → (least : ℕ) → least ≤ 12 → (i : Input) (fs : List Frame) → Spot top least i fs
+    → greatest_nesting + 1 ≤ i.nested + suc depth → (id o : Token) → is_identifier id ≡ true → Is (codes "[") o → (j : Input) → Took i.rest j.rest (id ∷ o ∷ []) → j.last ≡ i.last
+    → j.nested ≡ i.nested + 1 → j.nested ≤ greatest_nesting → Spot top 0 j (in_select id o ∷ fs) → (x : Expr) (k : Input) → IsWhole (in_select id o ∷ fs) j x k
+    → (c d f : Bool) → sees (codes ":") k ≡ c → sees (codes "+:") k ≡ d → sees (codes "-:") k ≡ f
+    → Judged top (IsOpen top fs id i)
+        (if c then and_then (whole expr (after k)) (λ y m. Ok (sel.Part o.place x y, m))
+        else (if d then and_then (whole expr (after k)) (λ y m. Ok (sel.Up o.place x y, m))
+        else (if f then and_then (whole expr (after k)) (λ y m. Ok (sel.Down o.place x y, m))
+        else Ok (sel.Bit o.place x, k))))
+select_from_by top expr depth reader least small i fs s enough id o named is j took last count within spot x k p true d f hc hd hf =
+    let found = sees-yes (codes ":") k hc in
+    judged_range top expr depth reader least small i fs s enough down_to id o named is j took last count within x k p found.0 found.1.0 found.1.1
+select_from_by top expr depth reader least small i fs s enough id o named is j took last count within spot x k p false true f hc hd hf =
+    let found = sees-yes (codes "+:") k hd in
+    judged_range top expr depth reader least small i fs s enough up_from id o named is j took last count within x k p found.0 found.1.0 found.1.1
+select_from_by top expr depth reader least small i fs s enough id o named is j took last count within spot x k p false false true hc hd hf =
+    let found = sees-yes (codes "-:") k hf in
+    judged_range top expr depth reader least small i fs s enough down_from id o named is j took last count within x k p found.0 found.1.0 found.1.1
+select_from_by top expr depth reader least small i fs s enough id o named is j took last count within spot x k whole_p false false false hc hd hf =
+    let p = whole_p.good.part in
+    record {
+      phrase = λ c. selected id o p.phrase c;
+      body = id ∷ o ∷ tokens_of p.phrase;
+      tokens = λ c. refl;
+      grammar = λ c h. (named, is, p.in_grammar, h);
+      tree_is = λ c. ap (λ z. e.Read (id_of id) (sel.Bit o.place z ∷ [])) p.tree_is;
+      strong = λ c. refl;
+      none = λ c. refl;
+      took = Took-then i.rest j.rest k.rest (id ∷ o ∷ []) (tokens_of p.phrase) took (whole_took (in_select id o ∷ fs) j x k whole_p);
+      last_is = whole_last (in_select id o ∷ fs) j x k whole_p ∙ last;
+      shallow = λ c z. brackets_shallow i.nested (length (tokens_of p.phrase)) (nesting p.phrase) (spot-small top least i fs s)
+          (λ v v_short. let low = p.shallow v v_short in omega (arith, low, count)) (z - 1);
+      has_it = λ c h. has-selected id o p.phrase c (reads_phrase p.phrase p.in_grammar) (named, is, p.in_grammar, h) fs;
+      stuck = λ no. whole_stuck top j (in_select id o) fs spot x k whole_p tt refl
+          (λ t t_next. rw (sees-no (codes ":") k hc t t_next, sees-no (codes "+:") k hd t t_next, sees-no (codes "-:") k hf t t_next, no t t_next) refl);
+    }
+
+judged_select : (top : Input) (expr : ℕ → Parser Expr) (depth : ℕ) → IsReader top expr depth → (least : ℕ) → least ≤ 12 → (i : Input) (fs : List Frame) → Spot top least i fs
+    → greatest_nesting + 1 ≤ i.nested + suc depth → (id o : Token) → Next i.rest id → is_identifier id ≡ true → Next (after i).rest o → Is (codes "[") o
+    → Judged top (λ found k. IsOperand fs i (e.Read (id_of id) (found ∷ [])) k) (select expr (after i))
+unfolding select
+judged_select top expr depth reader least small i fs s enough id o id_next named o_next is =
+    let fine = spot-small top least i fs s in
+    let good : Sel → Input → Type 0 = λ found k. IsOperand fs i (e.Read (id_of id) (found ∷ [])) k in
+    let over = selected id o (number spare) (sign_token (codes "]")) in
+    opened top (after i) (codes "[") o good _ o_next is
+      (λ full. deep_at top least i fs s (after i) over (id ∷ []) o (spare ∷ sign_token (codes "]") ∷ []) (named, is, refl, close_select_is) (λ some. omega arith) refl
+          (Took-after i id id_next) o_next
+          (λ m le. brackets_one i.nested (in_brackets 1 (nesting (number spare))) refl fine m le)
+          (let one = in_brackets-at 1 (nesting (number spare)) 0 (omega arith) in omega (arith, one, after-nested i, full)))
+      (λ j took last count within.
+        let took_both = Took-then i.rest (after i).rest j.rest (id ∷ []) (o ∷ []) (Took-after i id id_next) took in
+        let last_both = last ∙ after-last i in
+        let count_both : j.nested ≡ i.nested + 1 = omega (arith, count, after-nested i) in
+        let n = inner-select least i fs id o j small named is took_both last_both count_both (omega (arith, count_both, within)) in
+        let spot = inside top least i fs 0 j (in_select id o ∷ fs) s n in
+        judged_then top (IsWhole (in_select id o ∷ fs) j) good (whole expr j) _ (judged_whole top expr depth reader j (in_select id o ∷ fs) spot (omega (arith, count_both)))
+          (λ x k w.
+            judged_then top (IsOpen top fs id i) good (select_from expr o.place x k) _
+              (select_from_by top expr depth reader least small i fs s enough id o named is j took_both last_both count_both within spot x k w _ _ _ refl refl refl)
+              (λ found m open_it.
+                judged_then top (λ _ z. (z ≡ after m) × ((c : Token) × (Next m.rest c × (is_this (codes "]") c ≡ true)))) good (expect (codes "]") m) _
+                  (judged_expect top m (codes "]") open_it.stuck)
+                  (λ _ z closing.
+                    let c = closing.1.0 in
+                    let c_is = closing.1.1.1 in
+                    let P : Input → Type 0 = λ y. Took m.rest y.rest (c ∷ []) in
+                    let Q : List Token → Type 0 = λ ts. Took i.rest z.rest ts in
+                    primary_at fs i (open_it.phrase c) (open_it.grammar c c_is) (e.Read (id_of id) (found ∷ [])) (open_it.tree_is c) (open_it.strong c) (open_it.none c) (record z { nested = (after i).nested })
+                      (subst Q (sym (open_it.tokens c)) (Took-then i.rest m.rest z.rest open_it.body (c ∷ []) open_it.took (subst P (sym closing.0) (Took-after m c closing.1.1.0))))
+                      (ap (λ y. y.last) closing.0 ∙ after-last m ∙ open_it.last_is) (after-nested i) fine
+                      (λ y le. open_it.shallow c y)
+                      (λ t t_next t_is. ap (step t) (open_it.has_it c c_is) ∙ select_fails t t_is (tree_of (open_it.phrase c)) fs)))))
+
+read_by : (top : Input) (expr : ℕ → Parser Expr) (depth : ℕ) → IsReader top expr depth → (least : ℕ) → least ≤ 12 → (i : Input) (fs : List Frame) → Spot top least i fs
+    → greatest_nesting + 1 ≤ i.nested + suc depth → (id : Token) → Next i.rest id → is_identifier id ≡ true → (c : Bool) → sees (codes "[") (after i) ≡ c
+    → Judged top (IsOperand fs i) (and_then (if c then and_then (select expr (after i)) (λ found k. Ok (found ∷ [], k)) else Ok ([], after i)) (λ found k. Ok (e.Read (id_of id) found, k)))
+read_by top expr depth reader least small i fs s enough id id_next named false h =
+    primary_at fs i (name id) named (e.Read (id_of id) []) refl refl refl (after i) (Took-after i id id_next) (after-last i) (after-nested i) (spot-small top least i fs s)
+      (λ m le. let fine = spot-small top least i fs s in omega (arith, fine)) (λ t t_next is. absurd (not_both (sees-no (codes "[") (after i) h t t_next) is))
+read_by top expr depth reader least small i fs s enough id id_next named true h =
+    let found = sees-yes (codes "[") (after i) h in
+    let listed : List Sel → Input → Type 0 = λ xs k. IsOperand fs i (e.Read (id_of id) xs) k in
+    judged_then top listed (IsOperand fs i) (and_then (select expr (after i)) (λ x k. Ok (x ∷ [], k))) (λ xs k. Ok (e.Read (id_of id) xs, k))
+      (judged_then top (λ x k. IsOperand fs i (e.Read (id_of id) (x ∷ [])) k) listed (select expr (after i)) (λ x k. Ok (x ∷ [], k))
+        (judged_select top expr depth reader least small i fs s enough id found.0 id_next named found.1.0 found.1.1) (λ x k h2. h2))
+      (λ xs k h2. h2)
+
+pub judged_read : (top : Input) (expr : ℕ → Parser Expr) (depth : ℕ) → IsReader top expr depth → (least : ℕ) → least ≤ 12 → (i : Input) (fs : List Frame) → Spot top least i fs
+    → greatest_nesting + 1 ≤ i.nested + suc depth → (id : Token) → Next i.rest id → is_identifier id ≡ true → Judged top (IsOperand fs i) (read expr i)
+unfolding read selects
+judged_read top expr depth reader least small i fs s enough id id_next named =
+    judged_take top (IsOperand fs i) i id _ id_next (read_by top expr depth reader least small i fs s enough id id_next named _ refl)
