@@ -12,3 +12,4 @@ mod Levels
 mod Final
 mod Primaries
 mod Selects
+mod Lists

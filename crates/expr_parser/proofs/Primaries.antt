@@ -182,7 +182,7 @@ inner-group least i fs o j small is took last count fine = record {
 pub whole_took : (fs : List Frame) (i : Input) (tree : Expr) (k : Input) → (w : IsWhole fs i tree k) → Took i.rest k.rest (tokens_of w.good.part.phrase)
 whole_took fs i tree k w = let P : Input → Type 0 = λ z. Took i.rest z.rest (tokens_of w.good.part.phrase) in subst P (sym w.is) w.good.part.took
 
-whole_next : (fs : List Frame) (i : Input) (tree : Expr) (k : Input) → (w : IsWhole fs i tree k) → (t : Token) → Next k.rest t → Next w.there.rest t
+pub whole_next : (fs : List Frame) (i : Input) (tree : Expr) (k : Input) → (w : IsWhole fs i tree k) → (t : Token) → Next k.rest t → Next w.there.rest t
 whole_next fs i tree k w t h = let P : Input → Type 0 = λ z. Next z.rest t in subst P w.is h
 
 pub whole_last : (fs : List Frame) (i : Input) (tree : Expr) (k : Input) → (w : IsWhole fs i tree k) → k.last ≡ i.last
