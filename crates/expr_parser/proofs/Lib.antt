@@ -13,3 +13,4 @@ mod Final
 mod Primaries
 mod Selects
 mod Lists
+mod Braces
