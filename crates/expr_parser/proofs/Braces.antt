@@ -22,7 +22,7 @@ use Rattle.expr_parser.proofs.Levels.{IsWhole, judged_whole}
 use Rattle.expr_parser.proofs.Primaries.{sign_token, select_fails, primary_at, brackets_shallow, brackets_shallow_to, one_shallow_none, no_operand, opened, whole_took, whole_last, whole_nested, whole_stuck}
 use Rattle.expr_parser.proofs.Lists.{ListPlace, ListPart, IsList, first_inner, list_only, judged_list}
 
-close_brace_is : Is (codes "}") (sign_token (codes "}"))
+pub close_brace_is : Is (codes "}") (sign_token (codes "}"))
 unfolding is_this
 close_brace_is = refl
 
@@ -45,7 +45,7 @@ list_low least i fs first_ok frame j l found k p m le =
         subst P (sym at) (omega (arith, here, fine))
     ]
 
-list_stuck : (top : Input) (least : ℕ) (i : Input) (fs : List Frame) → Spot top least i fs → (first_ok : Token → Type 0) (frame : List Expr → Frame) (j : Input) (l : ListPlace least i fs frame j)
+pub list_stuck : (top : Input) (least : ℕ) (i : Input) (fs : List Frame) → Spot top least i fs → (first_ok : Token → Type 0) (frame : List Expr → Frame) (j : Input) (l : ListPlace least i fs frame j)
     → (found : List Expr) (k : Input) (x : IsList first_ok fs frame j found k)
     → ((t : Token) → Next k.rest t → (y : Expr) (ys : List Expr) → (ys ≡ [] → first_ok t) → closed t y (frame ys ∷ fs) ≡ failed) → IsFinal top (refusal k)
 list_stuck top least i fs s first_ok frame j l found k x ends =
@@ -65,7 +65,7 @@ list_stuck top least i fs s first_ok frame j l found k x ends =
 
 -- ---- concatenations
 
-concat_place : (least : ℕ) (i : Input) (fs : List Frame) (o : Token) (j : Input) → least ≤ 12 → Is (codes "{") o → Took i.rest j.rest (o ∷ []) → j.last ≡ i.last
+pub concat_place : (least : ℕ) (i : Input) (fs : List Frame) (o : Token) (j : Input) → least ≤ 12 → Is (codes "{") o → Took i.rest j.rest (o ∷ []) → j.last ≡ i.last
     → j.nested ≡ i.nested + 1 → j.nested ≤ greatest_nesting → ListPlace least i fs (in_braces o) j
 concat_place least i fs o j small is took last count within = record {
     before = o ∷ [];
@@ -108,7 +108,7 @@ pub record IsBraced (top : Input) (fs : List Frame) (i : Input) (tree : Expr) (k
   pub has_it : (c : Token) → Is (codes "}") c → steps (wants fs) (tokens_of (phrase c)) ≡ has (tree_of (phrase c)) fs
   pub stuck : ((t : Token) → Next k.rest t → is_this (codes "}") t ≡ false) → IsFinal top (refusal k)
 
-judged_concat : (top : Input) (expr : ℕ → Parser Expr) (depth : ℕ) → IsReader top expr depth → (least : ℕ) → least ≤ 12 → (i : Input) (fs : List Frame) → Spot top least i fs
+pub judged_concat : (top : Input) (expr : ℕ → Parser Expr) (depth : ℕ) → IsReader top expr depth → (least : ℕ) → least ≤ 12 → (i : Input) (fs : List Frame) → Spot top least i fs
     → greatest_nesting + 1 ≤ i.nested + suc depth → (o : Token) → Is (codes "{") o → (j : Input) → Took i.rest j.rest (o ∷ []) → j.last ≡ i.last → j.nested ≡ i.nested + 1 → j.nested ≤ greatest_nesting
     → (x : Expr) (k : Input) → IsWhole (in_braces o [] ∷ fs) j x k → sees (codes "{") k ≡ false
     → Judged top (IsBraced top fs i) (and_then (reading.more expr x k) (λ parts m. Ok (e.Concat o.place parts, m)))

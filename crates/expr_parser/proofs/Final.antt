@@ -1,7 +1,9 @@
 -- What reading gives is what the definitions say.
-use Rattle.std.proofs.Common.{◌≡◌, ◌≢◌, ◌∙◌, ◌⊎◌, inl, inr, ℕ, zero, suc, ◌+◌, ◌-◌, ◌<◌, ◌≤◌, Bool, true, false, List, [], ◌∷◌, ◌++◌, length, drop, Option, Some, None, Result, Ok, Err, refl, sym, ap, subst, arith, codes, append_assoc, append-nil, length-append, length-drop}
+use Rattle.std.proofs.Common.{◌≡◌, ◌≢◌, ◌∙◌, ◌⊎◌, inl, inr, ℕ, zero, suc, ◌+◌, ◌-◌, ◌<◌, ◌≤◌, Bool, true, false, List, [], ◌∷◌, ◌++◌, length, take, drop, Option, Some, None, Result, Ok, Err, refl, sym, ap, subst, arith, codes, append_assoc, append-nil, length-append, length-drop}
+use Rattle.std.proofs.lemmas.List.{take_rest}
 use Rattle.sv_lexer.specs.declared.token.Token.{Token}
 use Rattle.sv_base.specs.declared.refusal.Refusal.{Refusal}
+use Rattle.sv_base.specs.declared.refusal.Place.{Place}
 use Rattle.sv_ast.specs.declared.expression.Expr.{Expr}
 use Rattle.expr_parser.specs.declared.fault.ParseFault.{ParseFault}
 use Rattle.expr_parser.specs.declared.fault.ParseFault.TheVariants.{Refused, NoMemory}
@@ -122,3 +124,13 @@ pub refuses_right : (tokens : List Token) (at depth : ℕ) → PrimaryIs (input_
     → (e : ParseFault) → (e ≢ NoMemory → any (input_at tokens at depth) ≡ Err e) → IsFaultOf tokens at depth e
 refuses_right tokens at depth primary_is fine (Refused r) is = refuses_by tokens at depth primary_is fine (Refused r) (is (λ same. cc))
 refuses_right tokens at depth primary_is fine NoMemory is = tt
+
+rest_same : (s : List Token) (at : ℕ) → take (length s - at) (drop at s) ≡ drop at s
+rest_same s at = take_rest s at
+
+-- the cursor that the parser makes
+pub input_same : (s xs : List Token) (at depth : ℕ) (last : Place) → s ≡ xs → last ≡ last_place s
+    → (i : Input) → i ≡ record { rest = take (length s - at) (drop at s); nested = depth; last = last } → i ≡ input_at xs at depth
+input_same s xs at depth last same last_is i is =
+    is ∙ ap (λ r. record { rest = r; nested = depth; last = last }) (rest_same s at) ∙ ap (λ p. record { rest = drop at s; nested = depth; last = p }) last_is
+      ∙ ap (λ ts. input_at ts at depth) same

@@ -14,3 +14,5 @@ mod Primaries
 mod Selects
 mod Lists
 mod Braces
+mod Repeats
+mod Whole

@@ -267,7 +267,7 @@ judged_group top expr depth reader least small i fs s enough o o_next o_is =
           (let one = in_brackets-at 1 (nesting (number spare)) 0 (omega arith) in omega (arith, one)))
       (λ j took last count within. inner-group least i fs o j small o_is took last count (omega (arith, count, within)))
 
-group_operand : (least : ℕ) (i : Input) (fs : List Frame) → i.nested ≤ greatest_nesting → (o : Token) → Is (codes "(") o → (x : Expr) (k : Input) → IsParen in_group fs o i x k → IsOperand fs i x k
+pub group_operand : (least : ℕ) (i : Input) (fs : List Frame) → i.nested ≤ greatest_nesting → (o : Token) → Is (codes "(") o → (x : Expr) (k : Input) → IsParen in_group fs o i x k → IsOperand fs i x k
 group_operand least i fs fine o o_is x k p =
     let g = p.inside_it.good in
     let q = g.part.phrase in

@@ -114,3 +114,7 @@ precedence-small text =
 pub binds-small : (t : Token) → binds t ≤ 11
 unfolding binds
 binds-small t = choice-small (is_sign t.kind) _ _ (precedence-small t.text) (omega arith)
+
+pub start_is : (t : Token) → start_of t ≡ start_by t.kind t
+unfolding start_of
+start_is t = refl

@@ -24,6 +24,8 @@ pub fn parse_expr(
 {
     let last = last_place(tokens.as_slice());
     let mut cursor = Cursor::new(&tokens.as_slice()[at..], depth, last);
-    let tree = grammar::any(alloc, &mut cursor)?;
-    Ok((tree, tokens.len().saturating_sub(cursor.len())))
+    match grammar::any(alloc, &mut cursor) {
+        Ok(tree) => Ok((tree, tokens.len().saturating_sub(cursor.len()))),
+        Err(fault) => Err(fault),
+    }
 }
