@@ -35,14 +35,14 @@ list_low : (least : ℕ) (i : Input) (fs : List Frame) (first_ok : Token → Typ
     → (p : ListPart first_ok fs frame j found k) (m : ℕ) → m ≤ length l.before + length (all_tokens_of p.phrases) → i.nested + nesting (l.wrap p.phrases) m ≤ greatest_nesting
 list_low least i fs first_ok frame j l found k p m le =
     elim (cases_le m (length l.before)) [
-      inl short ↦ l.shallow p.phrases m short
-    | inr long ↦
-        let r = m - length l.before in
-        let at : m ≡ length l.before + r = omega arith in
-        let here = l.nest p.phrases r (omega arith) in
-        let fine = p.low r (omega arith) in
-        let P : ℕ → Type 0 = λ y. i.nested + nesting (l.wrap p.phrases) y ≤ greatest_nesting in
-        subst P (sym at) (omega (arith, here, fine))
+      | inl short ↦ l.shallow p.phrases m short
+      | inr long ↦
+          let r = m - length l.before in
+          let at : m ≡ length l.before + r = omega arith in
+          let here = l.nest p.phrases r (omega arith) in
+          let fine = p.low r (omega arith) in
+          let P : ℕ → Type 0 = λ y. i.nested + nesting (l.wrap p.phrases) y ≤ greatest_nesting in
+          subst P (sym at) (omega (arith, here, fine))
     ]
 
 pub list_stuck : (top : Input) (least : ℕ) (i : Input) (fs : List Frame) → Spot top least i fs → (first_ok : Token → Type 0) (frame : List Expr → Frame) (j : Input) (l : ListPlace least i fs frame j)
@@ -54,35 +54,35 @@ list_stuck top least i fs s first_ok frame j l found k x ends =
     let state : steps (wants fs) (l.before ++ all) ≡ steps (wants (frame [] ∷ fs)) all = steps-append (wants fs) l.before all ∙ ap (λ z. steps z all) l.state in
     let ended = reads_list p.phrases p.in_grammar frame l.is_frame [] fs in
     stuck_at top least i fs s k (l.wrap p.phrases) (l.before ++ all) l.after_it (l.grammar p.phrases p.in_grammar) (l.fits p.phrases)
-      (l.tokens p.phrases ∙ sym (append_assoc l.before all l.after_it))
-      (Took-then i.rest j.rest k.rest l.before all l.took p.took) (p.last_is ∙ l.last_is)
-      (λ m le. list_low least i fs first_ok frame j l found k p m (omega (arith, le, length-append l.before all)))
-      (λ t t_next. ap (step t) state ∙ p.fails t t_next (ends t t_next))
-      (λ y gs is none.
-        let same = same_ends (steps (wants (frame [] ∷ fs)) all) (y, gs) (ended.operand, ended.frames) (sym (ap operand_of state) ∙ is) ended.is in
-        let whole : reduce 0 gs y ≡ (ended.last, frame ended.before ∷ fs) = ap (λ z. reduce 0 z.1 z.0) same ∙ ended.folds in
-        frames_none (frame ended.before) fs (sym (ap (λ z. z.1) whole) ∙ none))
+    (l.tokens p.phrases ∙ sym (append_assoc l.before all l.after_it))
+    (Took-then i.rest j.rest k.rest l.before all l.took p.took) (p.last_is ∙ l.last_is)
+    (λ m le. list_low least i fs first_ok frame j l found k p m (omega (arith, le, length-append l.before all)))
+    (λ t t_next. ap (step t) state ∙ p.fails t t_next (ends t t_next))
+    (λ y gs is none.
+    let same = same_ends (steps (wants (frame [] ∷ fs)) all) (y, gs) (ended.operand, ended.frames) (sym (ap operand_of state) ∙ is) ended.is in
+    let whole : reduce 0 gs y ≡ (ended.last, frame ended.before ∷ fs) = ap (λ z. reduce 0 z.1 z.0) same ∙ ended.folds in
+    frames_none (frame ended.before) fs (sym (ap (λ z. z.1) whole) ∙ none))
 
 -- ---- concatenations
 
 pub concat_place : (least : ℕ) (i : Input) (fs : List Frame) (o : Token) (j : Input) → least ≤ 12 → Is (codes "{") o → Took i.rest j.rest (o ∷ []) → j.last ≡ i.last
     → j.nested ≡ i.nested + 1 → j.nested ≤ greatest_nesting → ListPlace least i fs (in_braces o) j
 concat_place least i fs o j small is took last count within = record {
-    before = o ∷ [];
-    after_it = sign_token (codes "}") ∷ [];
-    wrap = λ ps. concat o ps (sign_token (codes "}"));
-    tokens = λ ps. refl;
-    grammar = λ ps h. (is, h, close_brace_is);
-    fits = λ ps some. omega arith;
-    nest = λ ps m le. ap (λ x. i.nested + x) (in_brackets-at (length (all_tokens_of ps)) (nestings ps) m le) ∙ omega (arith, count);
-    shallow = λ ps k le. one_shallow i.nested (in_brackets (length (all_tokens_of ps)) (nestings ps)) refl
-        (in_brackets-at (length (all_tokens_of ps)) (nestings ps) 0 (omega arith) ∙ ap (λ x. 1 + x) (nestings-zero ps)) (omega (arith, count, within)) k le;
-    took = took;
-    last_is = last;
-    state = ap (λ k. begun k o fs) (start_of-brace o is);
-    is_frame = braces-frame o;
-    small = within;
-  }
+  before = o ∷ [];
+  after_it = sign_token (codes "}") ∷ [];
+  wrap = λ ps. concat o ps (sign_token (codes "}"));
+  tokens = λ ps. refl;
+  grammar = λ ps h. (is, h, close_brace_is);
+  fits = λ ps some. omega arith;
+  nest = λ ps m le. ap (λ x. i.nested + x) (in_brackets-at (length (all_tokens_of ps)) (nestings ps) m le) ∙ omega (arith, count);
+  shallow = λ ps k le. one_shallow i.nested (in_brackets (length (all_tokens_of ps)) (nestings ps)) refl
+      (in_brackets-at (length (all_tokens_of ps)) (nestings ps) 0 (omega arith) ∙ ap (λ x. 1 + x) (nestings-zero ps)) (omega (arith, count, within)) k le;
+  took = took;
+  last_is = last;
+  state = ap (λ k. begun k o fs) (start_of-brace o is);
+  is_frame = braces-frame o;
+  small = within;
+}
 
 if_same : (b : Bool) → (if b then failed else failed) ≡ failed
 if_same true = refl
@@ -118,21 +118,21 @@ judged_concat top expr depth reader least small i fs s enough o is j took last c
     let ok : Token → Type 0 = λ t. is_this (codes "{") t ≡ false in
     let fine = spot-small top least i fs s in
     judged_then top (IsList ok fs (in_braces o) j) (IsBraced top fs i) (list_from expr (length k.rest) (x ∷ []) k) (λ parts m. Ok (e.Concat o.place parts, m))
-      (judged_list top expr depth reader least i fs s ok (in_braces o) j l (omega (arith, count)) (length k.rest) (x ∷ []) k
-        (list_only ok fs (in_braces o) (braces-frame o) j x k w (sees-no (codes "{") k no_brace)) (omega arith))
-      (λ parts m found.
-        let p = found.part in
-        record {
-          phrase = λ c. concat o p.phrases c;
-          body = o ∷ all_tokens_of p.phrases;
-          tokens = λ c. refl;
-          grammar = λ c h. (is, p.in_grammar, h);
-          tree_is = λ c. ap (λ z. e.Concat o.place z) p.trees_are;
-          strong = λ c. refl;
-          none = λ c. refl;
-          took = Took-then i.rest j.rest m.rest (o ∷ []) (all_tokens_of p.phrases) took p.took;
-          last_is = p.last_is ∙ last;
-          shallow = λ c y. brackets_shallow i.nested (length (all_tokens_of p.phrases)) (nestings p.phrases) fine (λ v le. let low = p.low v le in omega (arith, low, count)) y;
-          has_it = λ c h. has-concat o p.phrases c (reads_list p.phrases p.in_grammar) (is, p.in_grammar, h) fs;
-          stuck = λ no. list_stuck top least i fs s ok (in_braces o) j l parts m found (λ t t_next y ys first. braces_end o fs t y ys first (found.no_comma t t_next) (no t t_next));
-        })
+    (judged_list top expr depth reader least i fs s ok (in_braces o) j l (omega (arith, count)) (length k.rest) (x ∷ []) k
+    (list_only ok fs (in_braces o) (braces-frame o) j x k w (sees-no (codes "{") k no_brace)) (omega arith))
+    (λ parts m found.
+    let p = found.part in
+    record {
+      phrase = λ c. concat o p.phrases c;
+      body = o ∷ all_tokens_of p.phrases;
+      tokens = λ c. refl;
+      grammar = λ c h. (is, p.in_grammar, h);
+      tree_is = λ c. ap (λ z. e.Concat o.place z) p.trees_are;
+      strong = λ c. refl;
+      none = λ c. refl;
+      took = Took-then i.rest j.rest m.rest (o ∷ []) (all_tokens_of p.phrases) took p.took;
+      last_is = p.last_is ∙ last;
+      shallow = λ c y. brackets_shallow i.nested (length (all_tokens_of p.phrases)) (nestings p.phrases) fine (λ v le. let low = p.low v le in omega (arith, low, count)) y;
+      has_it = λ c h. has-concat o p.phrases c (reads_list p.phrases p.in_grammar) (is, p.in_grammar, h) fs;
+      stuck = λ no. list_stuck top least i fs s ok (in_braces o) j l parts m found (λ t t_next y ys first. braces_end o fs t y ys first (found.no_comma t t_next) (no t t_next));
+    })

@@ -69,7 +69,7 @@ pub step-operand : (t : Token) → is_this (codes "[") t ≡ false → (state : 
 step-operand t other (has y gs) x fs is = ap (λ p. went_on t p.0 p.1) (some_same (y, gs) (x, fs) is)
 step-operand t other (has_name id gs) x fs is =
     ap (λ (k : Bool). if k then wants (in_select id t ∷ gs) else went_on t (e.Read (id_of id) []) gs) other
-        ∙ ap (λ p. went_on t p.0 p.1) (some_same (e.Read (id_of id) [], gs) (x, fs) is)
+    ∙ ap (λ p. went_on t p.0 p.1) (some_same (e.Read (id_of id) [], gs) (x, fs) is)
 step-operand t other (wants gs) x fs is = absurd cc
 step-operand t other (wants_argument f gs) x fs is = absurd cc
 step-operand t other (wants_brace y gs) x fs is = absurd cc
@@ -89,7 +89,7 @@ pub step-end : (t : Token) → IsEnd t → (fs : List Frame) (tree : Expr) (s : 
     → step t state ≡ closed t (reduce 0 fs tree).0 (reduce 0 fs tree).1
 step-end t ends fs tree s state ended =
     step-operand t ends.no_select state ended.operand ended.frames ended.is ∙ went_on-end t ended.operand ended.frames ends
-        ∙ ap (λ p. closed t p.0 p.1) (ended.folds 0 (omega arith))
+    ∙ ap (λ p. closed t p.0 p.1) (ended.folds 0 (omega arith))
 
 is_end : (text : List ℕ) (t : Token) → Is text t → precedence text ≡ 0 → bytes_eq text (codes "?") ≡ false → bytes_eq text (codes "[") ≡ false → IsEnd t
 is_end text t h none a b =
@@ -156,9 +156,9 @@ end-down t h = is_end (codes "-:") t h refl refl refl
 pub has-group : (o : Token) (p : Phrase) (c : Token) → IsRead p → IsPhrase (group o p c) → (fs : List Frame) → steps (wants fs) (tokens_of (group o p c)) ≡ has (tree_of (group o p c)) fs
 has-group o p c read h fs =
     (steps-append (step o (wants fs)) (tokens_of p) (c ∷ [])
-        ∙ ap (λ k. step c (steps (begun k o fs) (tokens_of p))) (start_of-group o h.0)
-        ∙ in-brackets in_group fs p read tt refl c (end-group c h.2)
-        ∙ rw h.2 refl)
+    ∙ ap (λ k. step c (steps (begun k o fs) (tokens_of p))) (start_of-group o h.0)
+    ∙ in-brackets in_group fs p read tt refl c (end-group c h.2)
+    ∙ rw h.2 refl)
 
 read-group : (o : Token) (p : Phrase) (c : Token) → IsRead p → IsPhrase (group o p c) → IsRead (group o p c)
 read-group o p c read h fs holds = ended_at fs _ _ _ (has-group o p c read h fs)
@@ -166,10 +166,10 @@ read-group o p c read h fs holds = ended_at fs _ _ _ (has-group o p c read h fs)
 pub has-call : (f o : Token) (p : Phrase) (c : Token) → IsRead p → IsPhrase (call f o p c) → (fs : List Frame) → steps (wants fs) (tokens_of (call f o p c)) ≡ has (tree_of (call f o p c)) fs
 has-call f o p c read h fs =
     (steps-append (step o (step f (wants fs))) (tokens_of p) (c ∷ [])
-        ∙ ap (λ k. step c (steps (step o (begun k f fs)) (tokens_of p))) (start_of-function f h.0)
-        ∙ ap (λ (k : Bool). step c (steps (if k then wants (in_call f ∷ fs) else failed) (tokens_of p))) h.1
-        ∙ in-brackets (in_call f) fs p read tt refl c (end-group c h.3)
-        ∙ rw h.3 refl)
+    ∙ ap (λ k. step c (steps (step o (begun k f fs)) (tokens_of p))) (start_of-function f h.0)
+    ∙ ap (λ (k : Bool). step c (steps (if k then wants (in_call f ∷ fs) else failed) (tokens_of p))) h.1
+    ∙ in-brackets (in_call f) fs p read tt refl c (end-group c h.3)
+    ∙ rw h.3 refl)
 
 read-call : (f o : Token) (p : Phrase) (c : Token) → IsRead p → IsPhrase (call f o p c) → IsRead (call f o p c)
 read-call f o p c read h fs holds = ended_at fs _ _ _ (has-call f o p c read h fs)
@@ -182,9 +182,9 @@ opened-select id o fs h k =
 pub has-selected : (id o : Token) (p : Phrase) (c : Token) → IsRead p → IsPhrase (selected id o p c) → (fs : List Frame) → steps (wants fs) (tokens_of (selected id o p c)) ≡ has (tree_of (selected id o p c)) fs
 has-selected id o p c read h fs =
     (steps-append (step o (step id (wants fs))) (tokens_of p) (c ∷ [])
-        ∙ ap (λ k. step c (steps k (tokens_of p))) (opened-select id o fs h.0 h.1)
-        ∙ in-brackets (in_select id o) fs p read tt refl c (end-select c h.3)
-        ∙ rw (not_this (codes "]") (codes ":") c h.3 refl, not_this (codes "]") (codes "+:") c h.3 refl, not_this (codes "]") (codes "-:") c h.3 refl, h.3) refl)
+    ∙ ap (λ k. step c (steps k (tokens_of p))) (opened-select id o fs h.0 h.1)
+    ∙ in-brackets (in_select id o) fs p read tt refl c (end-select c h.3)
+    ∙ rw (not_this (codes "]") (codes ":") c h.3 refl, not_this (codes "]") (codes "+:") c h.3 refl, not_this (codes "]") (codes "-:") c h.3 refl, h.3) refl)
 
 read-selected : (id o : Token) (p : Phrase) (c : Token) → IsRead p → IsPhrase (selected id o p c) → IsRead (selected id o p c)
 read-selected id o p c read h fs holds = ended_at fs _ _ _ (has-selected id o p c read h fs)
@@ -201,10 +201,10 @@ pub has-ranged : (w : Between) (id o : Token) (p : Phrase) (between : Token) (q 
     → IsPhrase (ranged w id o p between q c) → (fs : List Frame) → steps (wants fs) (tokens_of (ranged w id o p between q c)) ≡ has (tree_of (ranged w id o p between q c)) fs
 has-ranged w id o p between q c read_p read_q h fs =
     (steps-append (wants fs) (id ∷ o ∷ tokens_of p ++ between ∷ tokens_of q) (c ∷ [])
-        ∙ ap (step c) (steps-append (step o (step id (wants fs))) (tokens_of p) (between ∷ tokens_of q))
-        ∙ ap (λ k. step c (steps (step between (steps k (tokens_of p))) (tokens_of q))) (opened-select id o fs h.0 h.1)
-        ∙ ap (λ k. step c (steps k (tokens_of q))) (between-step w id o fs p read_p between h.3)
-        ∙ in-brackets (in_range w id o (tree_of p)) fs q read_q tt refl c (end-select c h.5) ∙ rw h.5 refl)
+    ∙ ap (step c) (steps-append (step o (step id (wants fs))) (tokens_of p) (between ∷ tokens_of q))
+    ∙ ap (λ k. step c (steps (step between (steps k (tokens_of p))) (tokens_of q))) (opened-select id o fs h.0 h.1)
+    ∙ ap (λ k. step c (steps k (tokens_of q))) (between-step w id o fs p read_p between h.3)
+    ∙ in-brackets (in_range w id o (tree_of p)) fs q read_q tt refl c (end-select c h.5) ∙ rw h.5 refl)
 
 read-ranged : (w : Between) (id o : Token) (p : Phrase) (between : Token) (q : Phrase) (c : Token) → IsRead p → IsRead q
     → IsPhrase (ranged w id o p between q c) → IsRead (ranged w id o p between q c)
@@ -258,8 +258,8 @@ pub left-step : (p : Phrase) (sign : Token) (fs : List Frame) → IsRead p → 0
 left-step p sign fs read some small le holds =
     let left = read fs (Holds-more fs _ _ le holds) in
     step-operand sign (binds-not_this (codes "[") sign some select-none) _ left.operand left.frames left.is
-        ∙ went_on-operator sign left.operand left.frames some
-        ∙ ap (λ x. wants (behind_left x.0 sign ∷ x.1)) (left.folds (binds sign) le ∙ rests fs (binds sign) (tree_of p) some (omega arith) (binds sign) (omega arith) holds)
+    ∙ went_on-operator sign left.operand left.frames some
+    ∙ ap (λ x. wants (behind_left x.0 sign ∷ x.1)) (left.folds (binds sign) le ∙ rests fs (binds sign) (tree_of p) some (omega arith) (binds sign) (omega arith) holds)
 
 read-binary : (p : Phrase) (sign : Token) (q : Phrase) → IsRead p → IsRead q → IsPhrase (binary p sign q) → IsRead (binary p sign q)
 read-binary p sign q read_p read_q h fs holds =
@@ -278,8 +278,8 @@ pub first-step : (p : Phrase) (t : Token) (fs : List Frame) → IsRead p → Is 
 first-step p t fs read h some holds =
     let test = read fs (Holds-more fs _ _ (omega arith) holds) in
     step-operand t (not_this (codes "?") (codes "[") t h refl) _ test.operand test.frames test.is
-        ∙ went_on-question t test.operand test.frames h
-        ∙ ap (λ x. wants (in_first x.0 t ∷ x.1)) (test.folds 1 (omega arith) ∙ rests fs 1 (tree_of p) (omega arith) (omega arith) 0 (omega arith) holds)
+    ∙ went_on-question t test.operand test.frames h
+    ∙ ap (λ x. wants (in_first x.0 t ∷ x.1)) (test.folds 1 (omega arith) ∙ rests fs 1 (tree_of p) (omega arith) (omega arith) 0 (omega arith) holds)
 
 read-choice : (p : Phrase) (t : Token) (q : Phrase) (u : Token) (r : Phrase) → IsRead p → IsRead q → IsRead r → IsPhrase (choice p t q u r) → IsRead (choice p t q u r)
 read-choice p t q u r read_p read_q read_r h fs holds =
@@ -291,7 +291,7 @@ read-choice p t q u r read_p read_q read_r h fs holds =
           ∙ ap (λ k. operand_of (steps (step u k) (tokens_of r))) (steps-append (wants fs) (tokens_of p) (t ∷ tokens_of q))
           ∙ ap (λ k. operand_of (steps (step u (steps k (tokens_of q))) (tokens_of r))) (first-step p t fs read_p h.0 h.2 holds)
           ∙ ap (λ k. operand_of (steps k (tokens_of r)))
-              (in-brackets (in_first (tree_of p) t) fs q read_q tt refl u (end-colon u h.4) ∙ rw h.4 refl)
+          (in-brackets (in_first (tree_of p) t) fs q read_q tt refl u (end-colon u h.4) ∙ rw h.4 refl)
           ∙ last.is;
       folds = λ b le. let none : b ≡ 0 = omega arith in last.folds b (omega arith) ∙ rw (eq-eqb b 0 none) refl;
     }
@@ -336,7 +336,7 @@ read-more p c ps read read_list h frame is_frame ys fs =
     let ended = read (frame ys ∷ fs) (is_frame.holds ys fs (strength p)) in
     let others = read_list frame is_frame (ys ++ tree_of p ∷ []) fs in
     let stepped = step-end c (end-comma c h) (frame ys ∷ fs) (tree_of p) (strength p) _ ended
-          ∙ ap (λ x. closed c x.0 x.1) (is_frame.rests ys fs (tree_of p)) ∙ is_frame.goes_on c h ys fs (tree_of p) in
+    ∙ ap (λ x. closed c x.0 x.1) (is_frame.rests ys fs (tree_of p)) ∙ is_frame.goes_on c h ys fs (tree_of p) in
     record {
       operand = others.operand;
       frames = others.frames;
@@ -353,7 +353,7 @@ pub list-end : (t : Token) → IsEnd t → (frame : List Expr → Frame) (fs : L
     → (ended : ListEnded frame fs all state) → step t state ≡ closed t ended.last (frame ended.before ∷ fs)
 list-end t ends frame fs all state ended =
     step-operand t ends.no_select state ended.operand ended.frames ended.is ∙ went_on-end t ended.operand ended.frames ends
-        ∙ ap (λ p. closed t p.0 p.1) ended.folds
+    ∙ ap (λ p. closed t p.0 p.1) ended.folds
 
 pub braces-frame : (o : Token) → IsListFrame (in_braces o)
 braces-frame o = record { holds = λ ys fs s. tt; rests = λ ys fs x. refl; goes_on = λ c h ys fs x. rw (not_this (codes ",") (codes "{") c h refl, h) refl }
@@ -365,10 +365,10 @@ pub has-concat : (o : Token) (ps : Phrases) (c : Token) → IsListRead ps → Is
 has-concat o ps c read h fs =
     let ended = read (in_braces o) (braces-frame o) [] fs in
     (steps-append (step o (wants fs)) (all_tokens_of ps) (c ∷ [])
-        ∙ ap (λ k. step c (steps (begun k o fs) (all_tokens_of ps))) (start_of-brace o h.0)
-        ∙ list-end c (end-brace c h.2) (in_braces o) fs (trees_of ps) _ ended
-        ∙ rw (not_this (codes "}") (codes "{") c h.2 refl, not_this (codes "}") (codes ",") c h.2 refl, h.2) refl
-        ∙ ap (λ all. has (e.Concat o.place all) fs) ended.all_are)
+    ∙ ap (λ k. step c (steps (begun k o fs) (all_tokens_of ps))) (start_of-brace o h.0)
+    ∙ list-end c (end-brace c h.2) (in_braces o) fs (trees_of ps) _ ended
+    ∙ rw (not_this (codes "}") (codes "{") c h.2 refl, not_this (codes "}") (codes ",") c h.2 refl, h.2) refl
+    ∙ ap (λ all. has (e.Concat o.place all) fs) ended.all_are)
 
 read-concat : (o : Token) (ps : Phrases) (c : Token) → IsListRead ps → IsPhrase (concat o ps c) → IsRead (concat o ps c)
 read-concat o ps c read h fs holds = ended_at fs _ _ _ (has-concat o ps c read h fs)
@@ -378,15 +378,15 @@ pub has-repeat : (o : Token) (p : Phrase) (i : Token) (ps : Phrases) (d c : Toke
 has-repeat o p i ps d c read read_list h fs =
     let ended = read_list (in_parts o (tree_of p)) (parts-frame o (tree_of p)) [] fs in
     let done : step d (steps (wants (in_parts o (tree_of p) [] ∷ fs)) (all_tokens_of ps)) ≡ wants_brace (e.Repeat o.place (tree_of p) (ended.before ++ ended.last ∷ [])) fs =
-        list-end d (end-brace d h.4) (in_parts o (tree_of p)) fs (trees_of ps) _ ended ∙ rw (not_this (codes "}") (codes ",") d h.4 refl, h.4) refl in
+    list-end d (end-brace d h.4) (in_parts o (tree_of p)) fs (trees_of ps) _ ended ∙ rw (not_this (codes "}") (codes ",") d h.4 refl, h.4) refl in
     (steps-append (wants fs) (o ∷ tokens_of p ++ i ∷ all_tokens_of ps) (d ∷ c ∷ [])
-        ∙ ap (λ k. step c (step d k)) (steps-append (step o (wants fs)) (tokens_of p) (i ∷ all_tokens_of ps))
-        ∙ ap (λ k. step c (step d (steps (step i (steps (begun k o fs) (tokens_of p))) (all_tokens_of ps)))) (start_of-brace o h.0)
-        ∙ ap (λ k. step c (step d (steps k (all_tokens_of ps))))
-            (in-brackets (in_braces o []) fs p read tt refl i (end-open_brace i h.2) ∙ rw h.2 refl)
-        ∙ ap (step c) done
-        ∙ ap (λ (k : Bool). if k then has (e.Repeat o.place (tree_of p) (ended.before ++ ended.last ∷ [])) fs else failed) h.5
-        ∙ ap (λ all. has (e.Repeat o.place (tree_of p) all) fs) ended.all_are)
+    ∙ ap (λ k. step c (step d k)) (steps-append (step o (wants fs)) (tokens_of p) (i ∷ all_tokens_of ps))
+    ∙ ap (λ k. step c (step d (steps (step i (steps (begun k o fs) (tokens_of p))) (all_tokens_of ps)))) (start_of-brace o h.0)
+    ∙ ap (λ k. step c (step d (steps k (all_tokens_of ps))))
+    (in-brackets (in_braces o []) fs p read tt refl i (end-open_brace i h.2) ∙ rw h.2 refl)
+    ∙ ap (step c) done
+    ∙ ap (λ (k : Bool). if k then has (e.Repeat o.place (tree_of p) (ended.before ++ ended.last ∷ [])) fs else failed) h.5
+    ∙ ap (λ all. has (e.Repeat o.place (tree_of p) all) fs) ended.all_are)
 
 read-repeat : (o : Token) (p : Phrase) (i : Token) (ps : Phrases) (d c : Token) → IsRead p → IsListRead ps
     → IsPhrase (repeat o p i ps d c) → IsRead (repeat o p i ps d c)

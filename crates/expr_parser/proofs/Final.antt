@@ -50,16 +50,16 @@ read_lem tokens at depth le tree k w =
       rest = w.there.rest;
       stands = (took.split, took.ends);
       place =
-        let whole : length (drop at tokens) ≡ length (took.front ++ w.there.rest) = ap length took.split in
-        omega (arith, whole, length-append took.front w.there.rest, length-drop at tokens, ap length rest_is);
+          let whole : length (drop at tokens) ≡ length (took.front ++ w.there.rest) = ap length took.split in
+          omega (arith, whole, length-append took.front w.there.rest, length-drop at tokens, ap length rest_is);
       phrase = q;
       in_grammar = g.part.in_grammar;
       tokens_are = sym took.run_is;
       tree_is = g.part.tree_is;
       longest = none_goes_on (grammar_tokens took.front) (grammar_tokens w.there.rest)
           (λ t first. let is_next : Next w.there.rest t = sym (grammar_tokens-front w.there.rest) ∙ first in
-              ap (λ run. steps (wants []) (run ++ t ∷ [])) took.run_is
-                ∙ one_more_step (tokens_of q) t (top_fails q g.part.in_grammar t (g.stops t is_next) (g.no_question refl t is_next) _ refl (g.part.no_select t is_next)));
+          ap (λ run. steps (wants []) (run ++ t ∷ [])) took.run_is
+          ∙ one_more_step (tokens_of q) t (top_fails q g.part.in_grammar t (g.stops t is_next) (g.no_question refl t is_next) _ refl (g.part.no_select t is_next)));
       shallow = λ x short. g.part.shallow x (let same : length (grammar_tokens took.front) ≡ length (tokens_of q) = ap length took.run_is in omega (arith, same, short));
     }
 
@@ -78,7 +78,7 @@ stuck_lem tokens at depth r s =
           s.unfinished ended.operand ended.frames (ap (λ x. operand_of (steps (wants []) x)) (sym here) ∙ ended.is) (ap (λ p. p.1) (ended.folds 0 (omega arith)));
       longest = none_goes_on (grammar_tokens s.took.front) (grammar_tokens s.rest)
           (λ t first. ap (λ run. steps (wants []) (run ++ t ∷ [])) run_is
-              ∙ one_more_step s.run t (s.fails t (sym (grammar_tokens-front s.rest) ∙ first)));
+          ∙ one_more_step s.run t (s.fails t (sym (grammar_tokens-front s.rest) ∙ first)));
       shallow = λ x short. s.shallow x (let same : length (grammar_tokens s.took.front) ≡ length s.run = ap length run_is in omega (arith, same, short));
       refused = s.refused ∙ refusal_at-front (last_place tokens) (past_marks s.rest) (grammar_tokens s.rest) (sym (grammar_tokens-front s.rest));
     }
@@ -87,7 +87,7 @@ deep_lem : (tokens : List Token) (at depth : ℕ) (r : Refusal) → Deep (input_
 deep_lem tokens at depth r s =
     let m = marked_front s.rest s.deep s.is_next in
     let run_is : grammar_tokens (s.took.front ++ m.marks) ≡ s.run =
-          grammar_tokens-append s.took.front m.marks ∙ ap (λ x. x ++ grammar_tokens m.marks) s.took.run_is ∙ ap (λ x. s.run ++ x) m.none ∙ append-nil s.run in
+    grammar_tokens-append s.took.front m.marks ∙ ap (λ x. x ++ grammar_tokens m.marks) s.took.run_is ∙ ap (λ x. s.run ++ x) m.none ∙ append-nil s.run in
     let same : length (grammar_tokens (s.took.front ++ m.marks)) ≡ length s.run = ap length run_is in
     record {
       front = s.took.front ++ m.marks;
@@ -133,4 +133,4 @@ pub input_same : (s xs : List Token) (at depth : ℕ) (last : Place) → s ≡ x
     → (i : Input) → i ≡ record { rest = take (length s - at) (drop at s); nested = depth; last = last } → i ≡ input_at xs at depth
 input_same s xs at depth last same last_is i is =
     is ∙ ap (λ r. record { rest = r; nested = depth; last = last }) (rest_same s at) ∙ ap (λ p. record { rest = drop at s; nested = depth; last = p }) last_is
-      ∙ ap (λ ts. input_at ts at depth) same
+    ∙ ap (λ ts. input_at ts at depth) same

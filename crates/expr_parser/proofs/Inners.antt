@@ -40,7 +40,7 @@ in_brackets-at len f m h =
     let within : nat_le (1 + m) (1 + len) ≡ true = le-leb (1 + m) (1 + len) (omega arith) in
     let at : 1 + m - 1 ≡ m = omega arith in
     ap (λ (c : Bool). if c then 0 else (if nat_le (1 + m) (1 + len) then 1 + f (1 + m - 1) else 0)) some
-      ∙ ap (λ (c : Bool). if c then 1 + f (1 + m - 1) else 0) within ∙ ap (λ x. 1 + f x) at
+    ∙ ap (λ (c : Bool). if c then 1 + f (1 + m - 1) else 0) within ∙ ap (λ x. 1 + f x) at
 
 pub unary-at : (t : Token) (q : Phrase) (m : ℕ) → nesting (unary t q) (1 + m) ≡ 1 + nesting q m
 unary-at t q m =
@@ -73,8 +73,8 @@ mutual
 pub one_shallow : (base : ℕ) (f : ℕ → ℕ) → f 0 ≡ 0 → f 1 ≡ 1 → base + 1 ≤ greatest_nesting → (k : ℕ) → k ≤ 1 → base + f k ≤ greatest_nesting
 one_shallow base f a b h k le =
     elim (cases_le k 0) [
-      inl low ↦ let at : k ≡ 0 = omega arith in let P : ℕ → Type 0 = λ x. base + f x ≤ greatest_nesting in subst P (sym at) (omega arith)
-    | inr high ↦ let at : k ≡ 1 = omega arith in let P : ℕ → Type 0 = λ x. base + f x ≤ greatest_nesting in subst P (sym at) (omega arith)
+      | inl low ↦ let at : k ≡ 0 = omega arith in let P : ℕ → Type 0 = λ x. base + f x ≤ greatest_nesting in subst P (sym at) (omega arith)
+      | inr high ↦ let at : k ≡ 1 = omega arith in let P : ℕ → Type 0 = λ x. base + f x ≤ greatest_nesting in subst P (sym at) (omega arith)
     ]
 
 -- ---- the operand of a sign
@@ -83,19 +83,19 @@ unfoldable pub inner-unary : (least : ℕ) (i : Input) (fs : List Frame) (t : To
     → Took i.rest j.rest (t ∷ []) → j.last ≡ i.last → j.nested ≡ i.nested + 1 → i.nested + 1 ≤ greatest_nesting
     → Inner least i fs 12 j (under_sign t ∷ fs)
 inner-unary least i fs t j small sign took last nested fine = record {
-    before = t ∷ [];
-    after_it = [];
-    wrap = λ q. unary t q;
-    tokens = λ q. ap (λ x. t ∷ x) (sym (append-nil (tokens_of q)));
-    grammar = λ q h k. (sign, h, k (omega arith));
-    fits = λ q k some. omega arith;
-    nest = λ q m le. ap (λ x. i.nested + x) (unary-at t q m) ∙ omega (arith, nested);
-    shallow = λ q k le. one_shallow i.nested (nesting (unary t q)) refl (unary-at t q 0 ∙ ap (λ x. 1 + x) (nesting-zero q)) fine k le;
-    took = took;
-    last_is = last;
-    state = ap (λ k. begun k t fs) (start_of-sign t sign);
-    holds = λ q k. k (omega arith);
-  }
+  before = t ∷ [];
+  after_it = [];
+  wrap = λ q. unary t q;
+  tokens = λ q. ap (λ x. t ∷ x) (sym (append-nil (tokens_of q)));
+  grammar = λ q h k. (sign, h, k (omega arith));
+  fits = λ q k some. omega arith;
+  nest = λ q m le. ap (λ x. i.nested + x) (unary-at t q m) ∙ omega (arith, nested);
+  shallow = λ q k le. one_shallow i.nested (nesting (unary t q)) refl (unary-at t q 0 ∙ ap (λ x. 1 + x) (nesting-zero q)) fine k le;
+  took = took;
+  last_is = last;
+  state = ap (λ k. begun k t fs) (start_of-sign t sign);
+  holds = λ q k. k (omega arith);
+}
 
 -- ---- the second operand of a sign
 
@@ -107,8 +107,8 @@ pub two_shallow : (base len : ℕ) (f : ℕ → ℕ) → ((k : ℕ) → k ≤ le
     → (k : ℕ) → k ≤ len + 1 → base + f k ≤ greatest_nesting
 two_shallow base len f low last k le =
     elim (cases_le k len) [
-      inl short ↦ low k short
-    | inr long ↦ let at : k ≡ len + (1 + 0) = omega arith in let P : ℕ → Type 0 = λ x. base + f x ≤ greatest_nesting in subst P (sym at) last
+      | inl short ↦ low k short
+      | inr long ↦ let at : k ≡ len + (1 + 0) = omega arith in let P : ℕ → Type 0 = λ x. base + f x ≤ greatest_nesting in subst P (sym at) last
     ]
 
 unfoldable pub inner-binary : (least : ℕ) (i : Input) (fs : List Frame) → ((q : Phrase) → Fits least q → Holds fs (strength q))
@@ -116,31 +116,31 @@ unfoldable pub inner-binary : (least : ℕ) (i : Input) (fs : List Frame) → ((
     → Took j.rest k.rest (t ∷ []) → k.last ≡ j.last → k.nested ≡ j.nested + 1 → k.nested ≤ greatest_nesting
     → Inner least i fs (binds t) k (behind_left (tree_of p.phrase) t ∷ fs)
 inner-binary least i fs holds tree j p t k above le took last nested fine = record {
-    before = tokens_of p.phrase ++ t ∷ [];
-    after_it = [];
-    wrap = λ q. binary p.phrase t q;
-    tokens = λ q. after-first (tokens_of p.phrase) (tokens_of q) t;
-    grammar = λ q h f. (omega arith, p.in_grammar, le, h, f (omega arith));
-    fits = λ q f some. above;
-    nest = λ q m short.
-        let at : length (tokens_of p.phrase ++ t ∷ []) + m ≡ length (tokens_of p.phrase) + (1 + m) = omega (arith, length-append (tokens_of p.phrase) (t ∷ [])) in
-        ap (λ x. i.nested + nesting (binary p.phrase t q) x) at
-          ∙ ap (λ x. i.nested + x) (operands-second (length (tokens_of p.phrase)) (nesting p.phrase) (operators p.phrase + 1) (nesting q) m)
-          ∙ omega (arith, nested, p.nested_is);
-    shallow = λ q x short.
-        two_shallow i.nested (length (tokens_of p.phrase)) (nesting (binary p.phrase t q))
-          (λ y within. let here = operands-first (length (tokens_of p.phrase)) (nesting p.phrase) (operators p.phrase + 1) (nesting q) y within in
-              let low = p.shallow y within in omega (arith, here, low))
-          (let here = operands-second (length (tokens_of p.phrase)) (nesting p.phrase) (operators p.phrase + 1) (nesting q) 0 in
-              let none = nesting-zero q in omega (arith, here, none, nested, p.nested_is, fine))
-          x (omega (arith, short, length-append (tokens_of p.phrase) (t ∷ [])));
-    took = Took-then i.rest j.rest k.rest (tokens_of p.phrase) (t ∷ []) p.took took;
-    last_is = last ∙ p.last_is;
-    state = steps-append (wants fs) (tokens_of p.phrase) (t ∷ [])
-        ∙ left-step p.phrase t fs (reads_phrase p.phrase p.in_grammar) (omega arith) (binds-small t) le
-            (holds (binary p.phrase t (number spare)) (λ some. above));
-    holds = λ q f. f (omega arith);
-  }
+  before = tokens_of p.phrase ++ t ∷ [];
+  after_it = [];
+  wrap = λ q. binary p.phrase t q;
+  tokens = λ q. after-first (tokens_of p.phrase) (tokens_of q) t;
+  grammar = λ q h f. (omega arith, p.in_grammar, le, h, f (omega arith));
+  fits = λ q f some. above;
+  nest = λ q m short.
+      let at : length (tokens_of p.phrase ++ t ∷ []) + m ≡ length (tokens_of p.phrase) + (1 + m) = omega (arith, length-append (tokens_of p.phrase) (t ∷ [])) in
+      ap (λ x. i.nested + nesting (binary p.phrase t q) x) at
+      ∙ ap (λ x. i.nested + x) (operands-second (length (tokens_of p.phrase)) (nesting p.phrase) (operators p.phrase + 1) (nesting q) m)
+      ∙ omega (arith, nested, p.nested_is);
+  shallow = λ q x short.
+      two_shallow i.nested (length (tokens_of p.phrase)) (nesting (binary p.phrase t q))
+      (λ y within. let here = operands-first (length (tokens_of p.phrase)) (nesting p.phrase) (operators p.phrase + 1) (nesting q) y within in
+      let low = p.shallow y within in omega (arith, here, low))
+      (let here = operands-second (length (tokens_of p.phrase)) (nesting p.phrase) (operators p.phrase + 1) (nesting q) 0 in
+      let none = nesting-zero q in omega (arith, here, none, nested, p.nested_is, fine))
+      x (omega (arith, short, length-append (tokens_of p.phrase) (t ∷ [])));
+  took = Took-then i.rest j.rest k.rest (tokens_of p.phrase) (t ∷ []) p.took took;
+  last_is = last ∙ p.last_is;
+  state = steps-append (wants fs) (tokens_of p.phrase) (t ∷ [])
+      ∙ left-step p.phrase t fs (reads_phrase p.phrase p.in_grammar) (omega arith) (binds-small t) le
+      (holds (binary p.phrase t (number spare)) (λ some. above));
+  holds = λ q f. f (omega arith);
+}
 
 -- ---- behind `?`, and behind its `:`
 
@@ -152,35 +152,35 @@ unfoldable pub inner-first : (i : Input) (fs : List Frame) → ((q : Phrase) →
     → Took j.rest k.rest (t ∷ []) → k.last ≡ j.last → k.nested ≡ j.nested + 1 → k.nested ≤ greatest_nesting
     → Inner 0 i fs 0 k (in_first (tree_of p.phrase) t ∷ fs)
 inner-first i fs holds tree j p t u k some is colon took last nested fine = record {
-    before = tokens_of p.phrase ++ t ∷ [];
-    after_it = u ∷ spare ∷ [];
-    wrap = λ q. choice p.phrase t q u (number spare);
-    tokens = λ q. between_parts (tokens_of p.phrase) (tokens_of q) (u ∷ spare ∷ []) t;
-    grammar = λ q h f. (is, p.in_grammar, some, h, colon, refl);
-    fits = λ q f none. absurd (omega arith);
-    nest = λ q m short.
-        let at : length (tokens_of p.phrase ++ t ∷ []) + m ≡ length (tokens_of p.phrase) + (1 + m) = omega (arith, length-append (tokens_of p.phrase) (t ∷ [])) in
-        let rest = operands (length (tokens_of q)) (nesting q) (operators q) (nesting (number spare)) in
-        ap (λ x. i.nested + nesting (choice p.phrase t q u (number spare)) x) at
-          ∙ ap (λ x. i.nested + x) (operands-second (length (tokens_of p.phrase)) (nesting p.phrase) (operators p.phrase + 1) rest m)
-          ∙ ap (λ x. i.nested + (operators p.phrase + 1 + x)) (operands-first (length (tokens_of q)) (nesting q) (operators q) (nesting (number spare)) m short)
-          ∙ omega (arith, nested, p.nested_is);
-    shallow = λ q x short.
-        let rest = operands (length (tokens_of q)) (nesting q) (operators q) (nesting (number spare)) in
-        two_shallow i.nested (length (tokens_of p.phrase)) (nesting (choice p.phrase t q u (number spare)))
-          (λ y within. let here = operands-first (length (tokens_of p.phrase)) (nesting p.phrase) (operators p.phrase + 1) rest y within in
-              let low = p.shallow y within in omega (arith, here, low))
-          (let here = operands-second (length (tokens_of p.phrase)) (nesting p.phrase) (operators p.phrase + 1) rest 0 in
-              let inner = operands-first (length (tokens_of q)) (nesting q) (operators q) (nesting (number spare)) 0 (omega arith) in
-              let none = nesting-zero q in omega (arith, here, inner, none, nested, p.nested_is, fine))
-          x (omega (arith, short, length-append (tokens_of p.phrase) (t ∷ [])));
-    took = Took-then i.rest j.rest k.rest (tokens_of p.phrase) (t ∷ []) p.took took;
-    last_is = last ∙ p.last_is;
-    state = steps-append (wants fs) (tokens_of p.phrase) (t ∷ [])
-        ∙ first-step p.phrase t fs (reads_phrase p.phrase p.in_grammar) is some
-            (holds (choice p.phrase t (number spare) u (number spare)) (λ none. absurd (omega arith)));
-    holds = λ q f. tt;
-  }
+  before = tokens_of p.phrase ++ t ∷ [];
+  after_it = u ∷ spare ∷ [];
+  wrap = λ q. choice p.phrase t q u (number spare);
+  tokens = λ q. between_parts (tokens_of p.phrase) (tokens_of q) (u ∷ spare ∷ []) t;
+  grammar = λ q h f. (is, p.in_grammar, some, h, colon, refl);
+  fits = λ q f none. absurd (omega arith);
+  nest = λ q m short.
+      let at : length (tokens_of p.phrase ++ t ∷ []) + m ≡ length (tokens_of p.phrase) + (1 + m) = omega (arith, length-append (tokens_of p.phrase) (t ∷ [])) in
+      let rest = operands (length (tokens_of q)) (nesting q) (operators q) (nesting (number spare)) in
+      ap (λ x. i.nested + nesting (choice p.phrase t q u (number spare)) x) at
+      ∙ ap (λ x. i.nested + x) (operands-second (length (tokens_of p.phrase)) (nesting p.phrase) (operators p.phrase + 1) rest m)
+      ∙ ap (λ x. i.nested + (operators p.phrase + 1 + x)) (operands-first (length (tokens_of q)) (nesting q) (operators q) (nesting (number spare)) m short)
+      ∙ omega (arith, nested, p.nested_is);
+  shallow = λ q x short.
+      let rest = operands (length (tokens_of q)) (nesting q) (operators q) (nesting (number spare)) in
+      two_shallow i.nested (length (tokens_of p.phrase)) (nesting (choice p.phrase t q u (number spare)))
+      (λ y within. let here = operands-first (length (tokens_of p.phrase)) (nesting p.phrase) (operators p.phrase + 1) rest y within in
+      let low = p.shallow y within in omega (arith, here, low))
+      (let here = operands-second (length (tokens_of p.phrase)) (nesting p.phrase) (operators p.phrase + 1) rest 0 in
+      let inner = operands-first (length (tokens_of q)) (nesting q) (operators q) (nesting (number spare)) 0 (omega arith) in
+      let none = nesting-zero q in omega (arith, here, inner, none, nested, p.nested_is, fine))
+      x (omega (arith, short, length-append (tokens_of p.phrase) (t ∷ [])));
+  took = Took-then i.rest j.rest k.rest (tokens_of p.phrase) (t ∷ []) p.took took;
+  last_is = last ∙ p.last_is;
+  state = steps-append (wants fs) (tokens_of p.phrase) (t ∷ [])
+      ∙ first-step p.phrase t fs (reads_phrase p.phrase p.in_grammar) is some
+      (holds (choice p.phrase t (number spare) u (number spare)) (λ none. absurd (omega arith)));
+  holds = λ q f. tt;
+}
 
 pub all_parts : (a q r : List Token) (t u : Token) → (a ++ t ∷ q) ++ u ∷ r ≡ ((a ++ t ∷ []) ++ (q ++ u ∷ [])) ++ (r ++ [])
 all_parts a q r t u =
@@ -195,19 +195,19 @@ choice_shallow fs gs i tree j p t k first_tree l q u nested r x short =
     let lq = length (tokens_of q.phrase) in
     let inside = operands lq (nesting q.phrase) (operators q.phrase) (nesting r) in
     elim (cases_le x lp) [
-      inl low ↦ let here = operands-first lp (nesting p.phrase) (operators p.phrase + 1) inside x low in let fine = p.shallow x low in omega (arith, here, fine)
-    | inr high ↦
-        let y = x - lp - 1 in
-        let at : x ≡ lp + (1 + y) = omega arith in
-        let here = operands-second lp (nesting p.phrase) (operators p.phrase + 1) inside y in
-        let rest : k.nested + inside y ≤ greatest_nesting =
-              two_shallow k.nested lq inside
-                (λ z within. let first = operands-first lq (nesting q.phrase) (operators q.phrase) (nesting r) z within in let fine = q.shallow z within in omega (arith, first, fine))
-                (let last = operands-second lq (nesting q.phrase) (operators q.phrase) (nesting r) 0 in let none = nesting-zero r in
-                    omega (arith, last, none, q.nested_is, q.small))
-                y (omega arith) in
-        let P : ℕ → Type 0 = λ v. i.nested + nesting (choice p.phrase t q.phrase u r) v ≤ greatest_nesting in
-        subst P (sym at) (omega (arith, here, rest, nested, p.nested_is))
+      | inl low ↦ let here = operands-first lp (nesting p.phrase) (operators p.phrase + 1) inside x low in let fine = p.shallow x low in omega (arith, here, fine)
+      | inr high ↦
+          let y = x - lp - 1 in
+          let at : x ≡ lp + (1 + y) = omega arith in
+          let here = operands-second lp (nesting p.phrase) (operators p.phrase + 1) inside y in
+          let rest : k.nested + inside y ≤ greatest_nesting =
+          two_shallow k.nested lq inside
+          (λ z within. let first = operands-first lq (nesting q.phrase) (operators q.phrase) (nesting r) z within in let fine = q.shallow z within in omega (arith, first, fine))
+          (let last = operands-second lq (nesting q.phrase) (operators q.phrase) (nesting r) 0 in let none = nesting-zero r in
+          omega (arith, last, none, q.nested_is, q.small))
+          y (omega arith) in
+          let P : ℕ → Type 0 = λ v. i.nested + nesting (choice p.phrase t q.phrase u r) v ≤ greatest_nesting in
+          subst P (sym at) (omega (arith, here, rest, nested, p.nested_is))
     ]
 
 unfoldable pub inner-second : (i : Input) (fs : List Frame) → ((q : Phrase) → Fits 0 q → Holds fs (strength q))
@@ -221,29 +221,29 @@ inner-second i fs holds tree j p t k first_tree l gs q u m some is colon took la
     let lp = length (tokens_of p.phrase) in
     let lq = length (tokens_of q.phrase) in
     record {
-    before = (tokens_of p.phrase ++ t ∷ []) ++ (tokens_of q.phrase ++ u ∷ []);
-    after_it = [];
-    wrap = λ r. choice p.phrase t q.phrase u r;
-    tokens = λ r. all_parts (tokens_of p.phrase) (tokens_of q.phrase) (tokens_of r) t u;
-    grammar = λ r h f. (is, p.in_grammar, some, q.in_grammar, colon, h);
-    fits = λ r f none. absurd (omega arith);
-    nest = λ r n short.
-        let at : length ((tokens_of p.phrase ++ t ∷ []) ++ (tokens_of q.phrase ++ u ∷ [])) + n ≡ lp + (1 + (lq + (1 + n))) =
-              omega (arith, length-append (tokens_of p.phrase ++ t ∷ []) (tokens_of q.phrase ++ u ∷ []), length-append (tokens_of p.phrase) (t ∷ []), length-append (tokens_of q.phrase) (u ∷ [])) in
-        ap (λ x. i.nested + nesting (choice p.phrase t q.phrase u r) x) at
+      before = (tokens_of p.phrase ++ t ∷ []) ++ (tokens_of q.phrase ++ u ∷ []);
+      after_it = [];
+      wrap = λ r. choice p.phrase t q.phrase u r;
+      tokens = λ r. all_parts (tokens_of p.phrase) (tokens_of q.phrase) (tokens_of r) t u;
+      grammar = λ r h f. (is, p.in_grammar, some, q.in_grammar, colon, h);
+      fits = λ r f none. absurd (omega arith);
+      nest = λ r n short.
+          let at : length ((tokens_of p.phrase ++ t ∷ []) ++ (tokens_of q.phrase ++ u ∷ [])) + n ≡ lp + (1 + (lq + (1 + n))) =
+          omega (arith, length-append (tokens_of p.phrase ++ t ∷ []) (tokens_of q.phrase ++ u ∷ []), length-append (tokens_of p.phrase) (t ∷ []), length-append (tokens_of q.phrase) (u ∷ [])) in
+          ap (λ x. i.nested + nesting (choice p.phrase t q.phrase u r) x) at
           ∙ ap (λ x. i.nested + x) (operands-second lp (nesting p.phrase) (operators p.phrase + 1) (operands lq (nesting q.phrase) (operators q.phrase) (nesting r)) (lq + (1 + n)))
           ∙ ap (λ x. i.nested + (operators p.phrase + 1 + x)) (operands-second lq (nesting q.phrase) (operators q.phrase) (nesting r) n)
           ∙ omega (arith, nested, p.nested_is, nested_u, q.nested_is);
-    shallow = λ r x short.
-        choice_shallow fs gs i tree j p t k first_tree l q u nested r x
+      shallow = λ r x short.
+          choice_shallow fs gs i tree j p t k first_tree l q u nested r x
           (omega (arith, short, length-append (tokens_of p.phrase ++ t ∷ []) (tokens_of q.phrase ++ u ∷ []), length-append (tokens_of p.phrase) (t ∷ []), length-append (tokens_of q.phrase) (u ∷ [])));
-    took = Took-then i.rest k.rest m.rest (tokens_of p.phrase ++ t ∷ []) (tokens_of q.phrase ++ u ∷ [])
-        (Took-then i.rest j.rest k.rest (tokens_of p.phrase) (t ∷ []) p.took took)
-        (Took-then k.rest l.rest m.rest (tokens_of q.phrase) (u ∷ []) q.took took_u);
-    last_is = last_u ∙ q.last_is ∙ last ∙ p.last_is;
-    state = steps-append (wants fs) (tokens_of p.phrase ++ t ∷ []) (tokens_of q.phrase ++ u ∷ [])
-        ∙ ap (λ x. steps x (tokens_of q.phrase ++ u ∷ [])) (steps-append (wants fs) (tokens_of p.phrase) (t ∷ [])
-            ∙ first-step p.phrase t fs (reads_phrase p.phrase p.in_grammar) is some (holds (choice p.phrase t (number spare) u (number spare)) (λ none. absurd (omega arith))))
-        ∙ steps-append (wants (in_first (tree_of p.phrase) t ∷ fs)) (tokens_of q.phrase) (u ∷ []) ∙ stepped;
-    holds = λ r f. tt;
+      took = Took-then i.rest k.rest m.rest (tokens_of p.phrase ++ t ∷ []) (tokens_of q.phrase ++ u ∷ [])
+          (Took-then i.rest j.rest k.rest (tokens_of p.phrase) (t ∷ []) p.took took)
+          (Took-then k.rest l.rest m.rest (tokens_of q.phrase) (u ∷ []) q.took took_u);
+      last_is = last_u ∙ q.last_is ∙ last ∙ p.last_is;
+      state = steps-append (wants fs) (tokens_of p.phrase ++ t ∷ []) (tokens_of q.phrase ++ u ∷ [])
+          ∙ ap (λ x. steps x (tokens_of q.phrase ++ u ∷ [])) (steps-append (wants fs) (tokens_of p.phrase) (t ∷ [])
+          ∙ first-step p.phrase t fs (reads_phrase p.phrase p.in_grammar) is some (holds (choice p.phrase t (number spare) u (number spare)) (λ none. absurd (omega arith))))
+          ∙ steps-append (wants (in_first (tree_of p.phrase) t ∷ fs)) (tokens_of q.phrase) (u ∷ []) ∙ stepped;
+      holds = λ r f. tt;
     }

@@ -11,4 +11,4 @@ last_place-index (a ∷ b ∷ ts) other h =
     let here : length (a ∷ b ∷ ts) - 1 ≡ suc (length ts) = omega arith in
     let behind : length ts ≡ length (b ∷ ts) - 1 = omega arith in
     ap (λ n. (slice_index_or (a ∷ b ∷ ts) n other).place) here ∙ ap (λ n. (slice_index_or (b ∷ ts) n other).place) behind
-        ∙ last_place-index (b ∷ ts) other (omega arith)
+    ∙ last_place-index (b ∷ ts) other (omega arith)

@@ -65,11 +65,11 @@ judged_level : (top : Input) → PrimaryIs top → (expr : ℕ → Parser Expr) 
 unfolding level
 judged_level top primary_is expr depth reader least small i fs s enough =
     judged_then top (IsOperand fs i) (Good least fs i) (operand expr i) _ (judged_operand top primary_is expr depth reader least small i fs s enough)
-      (λ x j o.
-        judged_then top (IsClimbed least fs i) (Good least fs i) (operations expr least x j) _
-          (judged_operations top expr depth reader least small i fs s enough x j
-            (record { part = o.part; fits = λ some. let strong = o.strong in omega (arith, strong); some = let strong = o.strong in omega (arith, strong) }))
-          (λ y k climbed. level_end top expr depth reader least i fs s enough y k climbed _ refl _ refl))
+    (λ x j o.
+    judged_then top (IsClimbed least fs i) (Good least fs i) (operations expr least x j) _
+    (judged_operations top expr depth reader least small i fs s enough x j
+    (record { part = o.part; fits = λ some. let strong = o.strong in omega (arith, strong); some = let strong = o.strong in omega (arith, strong) }))
+    (λ y k climbed. level_end top expr depth reader least i fs s enough y k climbed _ refl _ refl))
 
 judged_expr : (top : Input) → PrimaryIs top → (depth : ℕ) → IsReader top (expr depth) depth
 unfolding expr
@@ -88,24 +88,24 @@ pub judged_whole : (top : Input) (expr : ℕ → Parser Expr) (depth : ℕ) → 
 unfolding whole
 judged_whole top expr depth reader i fs s enough =
     judged_then top (Good 0 fs i) (IsWhole fs i) (expr 0 i) _ (reader 0 (omega arith) i fs s enough)
-      (λ x j g. record { there = j; good = g; is = refl })
+    (λ x j g. record { there = j; good = g; is = refl })
 
 -- the place of the whole text
 pub top_spot : (top : Input) → top.nested ≤ greatest_nesting → Spot top 0 top []
 top_spot top fine = record {
-    before = [];
-    after_it = [];
-    wrap = λ q. q;
-    tokens = λ q. sym (append-nil (tokens_of q));
-    grammar = λ q h f. h;
-    nest = λ q m le. let none : 0 + m ≡ m = omega arith in ap (λ x. top.nested + nesting q x) none;
-    shallow = λ q k le. let none : k ≡ 0 = omega arith in let P : ℕ → Type 0 = λ x. top.nested + nesting q x ≤ greatest_nesting in
-        subst P (sym none) (let here = nesting-zero q in omega (arith, here));
-    took = Took-none top.rest;
-    last_is = refl;
-    state = refl;
-    holds = λ q f. tt;
-  }
+  before = [];
+  after_it = [];
+  wrap = λ q. q;
+  tokens = λ q. sym (append-nil (tokens_of q));
+  grammar = λ q h f. h;
+  nest = λ q m le. let none : 0 + m ≡ m = omega arith in ap (λ x. top.nested + nesting q x) none;
+  shallow = λ q k le. let none : k ≡ 0 = omega arith in let P : ℕ → Type 0 = λ x. top.nested + nesting q x ≤ greatest_nesting in
+      subst P (sym none) (let here = nesting-zero q in omega (arith, here));
+  took = Took-none top.rest;
+  last_is = refl;
+  state = refl;
+  holds = λ q f. tt;
+}
 
 pub judged_any : (top : Input) → PrimaryIs top → top.nested ≤ greatest_nesting → Judged top (IsWhole [] top) (whole (expr 257) top)
 judged_any top primary_is fine = judged_whole top (expr 257) 257 (judged_expr top primary_is 257) top [] (top_spot top fine) (omega arith)

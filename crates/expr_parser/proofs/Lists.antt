@@ -39,23 +39,23 @@ pub with_last-first : (ps : Phrases) (c : Token) (q : Phrase) (n : ℕ) → n �
 with_last-first (only p) c q n le = one_after-first (length (tokens_of p)) (nesting p) (nestings (only q)) n le
 with_last-first (more p d ps) c q n le =
     elim (cases_le n (length (tokens_of p))) [
-      inl short ↦ one_after-first (length (tokens_of p)) (nesting p) (nestings (with_last ps c q)) n short ∙ sym (one_after-first (length (tokens_of p)) (nesting p) (nestings ps) n short)
-    | inr long ↦
-        let r = n - length (tokens_of p) - 1 in
-        let at : n ≡ length (tokens_of p) + (1 + r) = omega arith in
-        let short : r ≤ length (all_tokens_of ps) = omega (arith, le, length-append (tokens_of p) (d ∷ all_tokens_of ps)) in
-        let P : ℕ → Type 0 = λ x. nestings (more p d (with_last ps c q)) x ≡ nestings (more p d ps) x in
-        subst P (sym at) (one_after-second (length (tokens_of p)) (nesting p) (nestings (with_last ps c q)) r ∙ with_last-first ps c q r short
-            ∙ sym (one_after-second (length (tokens_of p)) (nesting p) (nestings ps) r))
+      | inl short ↦ one_after-first (length (tokens_of p)) (nesting p) (nestings (with_last ps c q)) n short ∙ sym (one_after-first (length (tokens_of p)) (nesting p) (nestings ps) n short)
+      | inr long ↦
+          let r = n - length (tokens_of p) - 1 in
+          let at : n ≡ length (tokens_of p) + (1 + r) = omega arith in
+          let short : r ≤ length (all_tokens_of ps) = omega (arith, le, length-append (tokens_of p) (d ∷ all_tokens_of ps)) in
+          let P : ℕ → Type 0 = λ x. nestings (more p d (with_last ps c q)) x ≡ nestings (more p d ps) x in
+          subst P (sym at) (one_after-second (length (tokens_of p)) (nesting p) (nestings (with_last ps c q)) r ∙ with_last-first ps c q r short
+          ∙ sym (one_after-second (length (tokens_of p)) (nesting p) (nestings ps) r))
     ]
 
 pub with_last-second : (ps : Phrases) (c : Token) (q : Phrase) (m : ℕ) → nestings (with_last ps c q) (length (all_tokens_of ps) + (1 + m)) ≡ nesting q m
 with_last-second (only p) c q m = one_after-second (length (tokens_of p)) (nesting p) (nestings (only q)) m
 with_last-second (more p d ps) c q m =
     let at : length (all_tokens_of (more p d ps)) + (1 + m) ≡ length (tokens_of p) + (1 + (length (all_tokens_of ps) + (1 + m))) =
-          omega (arith, length-append (tokens_of p) (d ∷ all_tokens_of ps)) in
+    omega (arith, length-append (tokens_of p) (d ∷ all_tokens_of ps)) in
     ap (nestings (more p d (with_last ps c q))) at ∙ one_after-second (length (tokens_of p)) (nesting p) (nestings (with_last ps c q)) (length (all_tokens_of ps) + (1 + m))
-      ∙ with_last-second ps c q m
+    ∙ with_last-second ps c q m
 
 -- ---- the place of a list in a phrase
 
@@ -76,19 +76,19 @@ pub record ListPlace (least : ℕ) (i : Input) (fs : List Frame) (frame : List E
 
 pub first_inner : (least : ℕ) (i : Input) (fs : List Frame) (frame : List Expr → Frame) (j : Input) → ListPlace least i fs frame j → Inner least i fs 0 j (frame [] ∷ fs)
 first_inner least i fs frame j l = record {
-    before = l.before;
-    after_it = l.after_it;
-    wrap = λ q. l.wrap (only q);
-    tokens = λ q. l.tokens (only q);
-    grammar = λ q h f. l.grammar (only q) h;
-    fits = λ q f. l.fits (only q);
-    nest = λ q m le. l.nest (only q) m le;
-    shallow = λ q k le. l.shallow (only q) k le;
-    took = l.took;
-    last_is = l.last_is;
-    state = l.state;
-    holds = λ q f. l.is_frame.holds [] fs (strength q);
-  }
+  before = l.before;
+  after_it = l.after_it;
+  wrap = λ q. l.wrap (only q);
+  tokens = λ q. l.tokens (only q);
+  grammar = λ q h f. l.grammar (only q) h;
+  fits = λ q f. l.fits (only q);
+  nest = λ q m le. l.nest (only q) m le;
+  shallow = λ q k le. l.shallow (only q) k le;
+  took = l.took;
+  last_is = l.last_is;
+  state = l.state;
+  holds = λ q f. l.is_frame.holds [] fs (strength q);
+}
 
 -- what was read of a list
 pub record ListPart (first_ok : Token → Type 0) (fs : List Frame) (frame : List Expr → Frame) (j : Input) (found : List Expr) (k : Input) : Type 0 where
@@ -126,14 +126,14 @@ more_low : (first_ok : Token → Type 0) (fs : List Frame) (frame : List Expr �
     → (n : ℕ) → n ≤ length (all_tokens_of p.phrases) + 1 + length (tokens_of q) → j.nested + nestings (with_last p.phrases c q) n ≤ greatest_nesting
 more_low first_ok fs frame j found k p c q small high n le =
     elim (cases_le n (length (all_tokens_of p.phrases))) [
-      inl short ↦ let here = with_last-first p.phrases c q n short in let fine = p.low n short in omega (arith, here, fine)
-    | inr long ↦
-        let r = n - length (all_tokens_of p.phrases) - 1 in
-        let at : n ≡ length (all_tokens_of p.phrases) + (1 + r) = omega arith in
-        let here = with_last-second p.phrases c q r in
-        let fine = high r (omega arith) in
-        let P : ℕ → Type 0 = λ x. j.nested + nestings (with_last p.phrases c q) x ≤ greatest_nesting in
-        subst P (sym at) (omega (arith, here, fine))
+      | inl short ↦ let here = with_last-first p.phrases c q n short in let fine = p.low n short in omega (arith, here, fine)
+      | inr long ↦
+          let r = n - length (all_tokens_of p.phrases) - 1 in
+          let at : n ≡ length (all_tokens_of p.phrases) + (1 + r) = omega arith in
+          let here = with_last-second p.phrases c q r in
+          let fine = high r (omega arith) in
+          let P : ℕ → Type 0 = λ x. j.nested + nestings (with_last p.phrases c q) x ≤ greatest_nesting in
+          subst P (sym at) (omega (arith, here, fine))
     ]
 
 next_shallow : (first_ok : Token → Type 0) (least : ℕ) (i : Input) (fs : List Frame) (frame : List Expr → Frame) (j : Input) (l : ListPlace least i fs frame j) (found : List Expr) (k : Input)
@@ -141,25 +141,25 @@ next_shallow : (first_ok : Token → Type 0) (least : ℕ) (i : Input) (fs : Lis
     → i.nested + nesting (l.wrap (with_last p.phrases c q)) x ≤ greatest_nesting
 next_shallow first_ok least i fs frame j l found k p c q x le =
     elim (cases_le x (length l.before)) [
-      inl short ↦ l.shallow (with_last p.phrases c q) x short
-    | inr long ↦
-        let r = x - length l.before in
-        let at : x ≡ length l.before + r = omega arith in
-        let len : length (all_tokens_of (with_last p.phrases c q)) ≡ length (all_tokens_of p.phrases ++ c ∷ tokens_of q) = ap length (with_last-tokens p.phrases c q) in
-        let here = l.nest (with_last p.phrases c q) r (omega (arith, len, length-append (all_tokens_of p.phrases) (c ∷ tokens_of q))) in
-        let fine : j.nested + nestings (with_last p.phrases c q) r ≤ greatest_nesting =
-              elim (cases_le r (length (all_tokens_of p.phrases))) [
-                inl low ↦ let first = with_last-first p.phrases c q r low in let ok = p.low r low in omega (arith, first, ok)
-              | inr high ↦
-                  let last : r ≡ length (all_tokens_of p.phrases) + (1 + 0) = omega arith in
-                  let second = with_last-second p.phrases c q 0 in
-                  let none = nesting-zero q in
-                  let small = l.small in
-                  let P : ℕ → Type 0 = λ y. j.nested + nestings (with_last p.phrases c q) y ≤ greatest_nesting in
-                  subst P (sym last) (omega (arith, second, none, small))
-              ] in
-        let P : ℕ → Type 0 = λ y. i.nested + nesting (l.wrap (with_last p.phrases c q)) y ≤ greatest_nesting in
-        subst P (sym at) (omega (arith, here, fine))
+      | inl short ↦ l.shallow (with_last p.phrases c q) x short
+      | inr long ↦
+          let r = x - length l.before in
+          let at : x ≡ length l.before + r = omega arith in
+          let len : length (all_tokens_of (with_last p.phrases c q)) ≡ length (all_tokens_of p.phrases ++ c ∷ tokens_of q) = ap length (with_last-tokens p.phrases c q) in
+          let here = l.nest (with_last p.phrases c q) r (omega (arith, len, length-append (all_tokens_of p.phrases) (c ∷ tokens_of q))) in
+          let fine : j.nested + nestings (with_last p.phrases c q) r ≤ greatest_nesting =
+          elim (cases_le r (length (all_tokens_of p.phrases))) [
+            | inl low ↦ let first = with_last-first p.phrases c q r low in let ok = p.low r low in omega (arith, first, ok)
+            | inr high ↦
+                let last : r ≡ length (all_tokens_of p.phrases) + (1 + 0) = omega arith in
+                let second = with_last-second p.phrases c q 0 in
+                let none = nesting-zero q in
+                let small = l.small in
+                let P : ℕ → Type 0 = λ y. j.nested + nestings (with_last p.phrases c q) y ≤ greatest_nesting in
+                subst P (sym last) (omega (arith, second, none, small))
+          ] in
+          let P : ℕ → Type 0 = λ y. i.nested + nesting (l.wrap (with_last p.phrases c q)) y ≤ greatest_nesting in
+          subst P (sym at) (omega (arith, here, fine))
     ]
 
 next_inner : (first_ok : Token → Type 0) (least : ℕ) (i : Input) (fs : List Frame) (frame : List Expr → Frame) (j : Input) (l : ListPlace least i fs frame j) (found : List Expr) (k : Input)
@@ -168,25 +168,25 @@ next_inner : (first_ok : Token → Type 0) (least : ℕ) (i : Input) (fs : List 
 next_inner first_ok least i fs frame j l found k p c is m took last count =
     let all = all_tokens_of p.phrases in
     record {
-    before = l.before ++ (all ++ c ∷ []);
-    after_it = l.after_it;
-    wrap = λ q. l.wrap (with_last p.phrases c q);
-    tokens = λ q. l.tokens (with_last p.phrases c q) ∙ ap (λ x. l.before ++ (x ++ l.after_it)) (with_last-tokens p.phrases c q) ∙ list_parts l.before all (tokens_of q) l.after_it c;
-    grammar = λ q h f. l.grammar (with_last p.phrases c q) (with_last-are p.phrases c q p.in_grammar is h);
-    fits = λ q f. l.fits (with_last p.phrases c q);
-    nest = λ q n le.
-        let at : length (l.before ++ (all ++ c ∷ [])) + n ≡ length l.before + (length all + (1 + n)) = omega (arith, length-append l.before (all ++ c ∷ []), length-append all (c ∷ [])) in
-        let len : length (all_tokens_of (with_last p.phrases c q)) ≡ length (all ++ c ∷ tokens_of q) = ap length (with_last-tokens p.phrases c q) in
-        ap (λ x. i.nested + nesting (l.wrap (with_last p.phrases c q)) x) at
+      before = l.before ++ (all ++ c ∷ []);
+      after_it = l.after_it;
+      wrap = λ q. l.wrap (with_last p.phrases c q);
+      tokens = λ q. l.tokens (with_last p.phrases c q) ∙ ap (λ x. l.before ++ (x ++ l.after_it)) (with_last-tokens p.phrases c q) ∙ list_parts l.before all (tokens_of q) l.after_it c;
+      grammar = λ q h f. l.grammar (with_last p.phrases c q) (with_last-are p.phrases c q p.in_grammar is h);
+      fits = λ q f. l.fits (with_last p.phrases c q);
+      nest = λ q n le.
+          let at : length (l.before ++ (all ++ c ∷ [])) + n ≡ length l.before + (length all + (1 + n)) = omega (arith, length-append l.before (all ++ c ∷ []), length-append all (c ∷ [])) in
+          let len : length (all_tokens_of (with_last p.phrases c q)) ≡ length (all ++ c ∷ tokens_of q) = ap length (with_last-tokens p.phrases c q) in
+          ap (λ x. i.nested + nesting (l.wrap (with_last p.phrases c q)) x) at
           ∙ l.nest (with_last p.phrases c q) (length all + (1 + n)) (omega (arith, le, len, length-append all (c ∷ tokens_of q)))
           ∙ ap (λ x. j.nested + x) (with_last-second p.phrases c q n) ∙ omega (arith, count, p.nested_is);
-    shallow = λ q x le.
-        next_shallow first_ok least i fs frame j l found k p c q x (omega (arith, le, length-append l.before (all ++ c ∷ []), length-append all (c ∷ [])));
-    took = Took-then i.rest j.rest m.rest l.before (all ++ c ∷ []) l.took (Took-then j.rest k.rest m.rest all (c ∷ []) p.took took);
-    last_is = last ∙ p.last_is ∙ l.last_is;
-    state = steps-append (wants fs) l.before (all ++ c ∷ []) ∙ ap (λ s. steps s (all ++ c ∷ [])) l.state ∙ steps-append (wants (frame [] ∷ fs)) all (c ∷ [])
-        ∙ comma_state fs frame l.is_frame p.phrases p.in_grammar c is;
-    holds = λ q f. l.is_frame.holds (trees_of p.phrases) fs (strength q);
+      shallow = λ q x le.
+          next_shallow first_ok least i fs frame j l found k p c q x (omega (arith, le, length-append l.before (all ++ c ∷ []), length-append all (c ∷ [])));
+      took = Took-then i.rest j.rest m.rest l.before (all ++ c ∷ []) l.took (Took-then j.rest k.rest m.rest all (c ∷ []) p.took took);
+      last_is = last ∙ p.last_is ∙ l.last_is;
+      state = steps-append (wants fs) l.before (all ++ c ∷ []) ∙ ap (λ s. steps s (all ++ c ∷ [])) l.state ∙ steps-append (wants (frame [] ∷ fs)) all (c ∷ [])
+          ∙ comma_state fs frame l.is_frame p.phrases p.in_grammar c is;
+      holds = λ q f. l.is_frame.holds (trees_of p.phrases) fs (strength q);
     }
 
 -- the list with one expression more
@@ -205,7 +205,7 @@ list_more first_ok fs frame is_frame j found k p c is c_next tree n w small =
       trees_are = with_last-trees p.phrases c q ∙ ap (λ x. x ++ tree_of q ∷ []) p.trees_are ∙ ap (λ x. found ++ x ∷ []) g.part.tree_is;
       took = let P : List Token → Type 0 = λ ts. Took j.rest n.rest ts in
           subst P (sym tokens_are) (Took-then j.rest k.rest n.rest all (c ∷ tokens_of q) p.took
-            (Took-then k.rest (after k).rest n.rest (c ∷ []) (tokens_of q) (Took-after k c c_next) (whole_took gs (after k) tree n w)));
+          (Took-then k.rest (after k).rest n.rest (c ∷ []) (tokens_of q) (Took-after k c c_next) (whole_took gs (after k) tree n w)));
       last_is = whole_last gs (after k) tree n w ∙ after-last k ∙ p.last_is;
       nested_is = whole_nested gs (after k) tree n w ∙ after-nested k ∙ p.nested_is;
       low = λ m le. more_low first_ok fs frame j found k p c q small (λ v v_le. let fine = g.part.shallow v v_le in omega (arith, fine, after-nested k, p.nested_is)) m
@@ -213,9 +213,9 @@ list_more first_ok fs frame is_frame j found k p c is c_next tree n w small =
       fails = λ t t_next ends.
           let there = whole_next gs (after k) tree n w t t_next in
           ap (λ ts. step t (steps (wants (frame [] ∷ fs)) ts)) tokens_are ∙ ap (step t) (steps-append (wants (frame [] ∷ fs)) all (c ∷ tokens_of q))
-            ∙ ap (λ s. step t (steps s (tokens_of q))) (comma_state fs frame is_frame p.phrases p.in_grammar c is)
-            ∙ whole_fails (frame (trees_of p.phrases)) fs q g.part.in_grammar (is_frame.holds (trees_of p.phrases) fs (strength q)) (is_frame.rests (trees_of p.phrases) fs (tree_of q)) t
-                (g.stops t there) (g.no_question refl t there) (g.part.no_select t there) (ends (tree_of q) (trees_of p.phrases) (λ none. absurd (some_trees p.phrases none)));
+          ∙ ap (λ s. step t (steps s (tokens_of q))) (comma_state fs frame is_frame p.phrases p.in_grammar c is)
+          ∙ whole_fails (frame (trees_of p.phrases)) fs q g.part.in_grammar (is_frame.holds (trees_of p.phrases) fs (strength q)) (is_frame.rests (trees_of p.phrases) fs (tree_of q)) t
+          (g.stops t there) (g.no_question refl t there) (g.part.no_select t there) (ends (tree_of q) (trees_of p.phrases) (λ none. absurd (some_trees p.phrases none)));
     }
 
 -- a list of one
@@ -235,7 +235,7 @@ list_only first_ok fs frame is_frame j tree k w ok =
       fails = λ t t_next ends.
           let there = whole_next (frame [] ∷ fs) j tree k w t t_next in
           whole_fails (frame []) fs q g.part.in_grammar (is_frame.holds [] fs (strength q)) (is_frame.rests [] fs (tree_of q)) t (g.stops t there) (g.no_question refl t there)
-            (g.part.no_select t there) (ends (tree_of q) [] (λ none. ok t t_next));
+          (g.part.no_select t there) (ends (tree_of q) [] (λ none. ok t t_next));
     }
 
 -- a list that no comma goes on with
@@ -259,10 +259,10 @@ list_by top expr depth reader least i fs s first_ok frame j l enough n rec found
     let gs = frame (trees_of p.phrases) ∷ fs in
     let inner = next_inner first_ok least i fs frame j l found k p c comma.1.1 (after k) (Took-after k c comma.1.0) (after-last k) (after-nested k) in
     judged_then top (IsWhole gs (after k)) (IsList first_ok fs frame j) (whole expr (after k)) (λ tree. list_from expr n (found ++ tree ∷ []))
-      (judged_whole top expr depth reader (after k) gs (inside top least i fs 0 (after k) gs s inner) (omega (arith, after-nested k, p.nested_is)))
-      (λ tree m w. rec (found ++ tree ∷ []) m (list_more first_ok fs frame l.is_frame j found k p c comma.1.1 comma.1.0 tree m w l.small)
-        (let less = Took-shorter k.rest m.rest (tokens_of w.good.part.phrase) c
-              (Took-then k.rest (after k).rest m.rest (c ∷ []) (tokens_of w.good.part.phrase) (Took-after k c comma.1.0) (whole_took gs (after k) tree m w)) in omega (arith, less, le)))
+    (judged_whole top expr depth reader (after k) gs (inside top least i fs 0 (after k) gs s inner) (omega (arith, after-nested k, p.nested_is)))
+    (λ tree m w. rec (found ++ tree ∷ []) m (list_more first_ok fs frame l.is_frame j found k p c comma.1.1 comma.1.0 tree m w l.small)
+    (let less = Took-shorter k.rest m.rest (tokens_of w.good.part.phrase) c
+    (Took-then k.rest (after k).rest m.rest (c ∷ []) (tokens_of w.good.part.phrase) (Took-after k c comma.1.0) (whole_took gs (after k) tree m w)) in omega (arith, less, le)))
 
 pub judged_list : (top : Input) (expr : ℕ → Parser Expr) (depth : ℕ) → IsReader top expr depth → (least : ℕ) (i : Input) (fs : List Frame) → Spot top least i fs
     → (first_ok : Token → Type 0) (frame : List Expr → Frame) (j : Input) → ListPlace least i fs frame j → greatest_nesting + 1 ≤ j.nested + depth

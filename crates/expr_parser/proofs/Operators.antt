@@ -38,14 +38,14 @@ pub wrapped_shallow : (least : ℕ) (i : Input) (fs : List Frame) (inner : ℕ) 
 wrapped_shallow least i fs inner j gs n x k g m le =
     let q = g.part.phrase in
     elim (cases_le m (length n.before)) [
-      inl low ↦ n.shallow q m low
-    | inr high ↦
-        let at : m ≡ length n.before + (m - length n.before) = omega arith in
-        let short : m - length n.before ≤ length (tokens_of q) = omega arith in
-        let here = n.nest q (m - length n.before) short in
-        let fine = g.part.shallow (m - length n.before) short in
-        let P : ℕ → Type 0 = λ y. i.nested + nesting (n.wrap q) y ≤ greatest_nesting in
-        subst P (sym at) (omega (arith, here, fine))
+      | inl low ↦ n.shallow q m low
+      | inr high ↦
+          let at : m ≡ length n.before + (m - length n.before) = omega arith in
+          let short : m - length n.before ≤ length (tokens_of q) = omega arith in
+          let here = n.nest q (m - length n.before) short in
+          let fine = g.part.shallow (m - length n.before) short in
+          let P : ℕ → Type 0 = λ y. i.nested + nesting (n.wrap q) y ≤ greatest_nesting in
+          subst P (sym at) (omega (arith, here, fine))
     ]
 
 -- what was read at a place inside is read with what stands before it
@@ -69,7 +69,7 @@ wrapped least i fs inner j gs n none x k g tree tree_is count less =
       binds_less = less;
       no_select = λ t is_next h.
           ap (λ ts. step t (steps (wants fs) ts)) all ∙ ap (step t) (steps-append (wants fs) n.before (tokens_of q) ∙ ap (λ s. steps s (tokens_of q)) n.state)
-            ∙ g.part.no_select t is_next h;
+          ∙ g.part.no_select t is_next h;
     }
 
 -- ---- a sign and its operand
@@ -81,18 +81,18 @@ unfolding prefixed inner-unary wrapped
 judged_prefixed top expr depth reader least small i fs s enough t is_next sign =
     let fine = spot-small top least i fs s in
     risen top i t (IsOperand fs i) _ is_next
-      (λ full. deep_at top least i fs s i (unary t (number spare)) [] t (spare ∷ []) (sign, refl, omega arith) (λ some. omega arith) refl (Took-none i.rest) is_next
-          (λ k le. let none : k ≡ 0 = omega arith in let P : ℕ → Type 0 = λ x. i.nested + nesting (unary t (number spare)) x ≤ greatest_nesting in subst P (sym none) (omega arith))
-          (let one = unary-at t (number spare) 0 in omega (arith, one)))
-      (λ j took last count within.
-        let n = inner-unary least i fs t j small sign took last count (omega (arith, count, within)) in
-        judged_then top (Good 12 (under_sign t ∷ fs) j) (IsOperand fs i) (expr 12 j) _
-          (reader 12 (omega arith) j (under_sign t ∷ fs) (inside top least i fs 12 j (under_sign t ∷ fs) s n) (omega (arith, count)))
-          (λ x k g. record {
-              part = wrapped least i fs 12 j (under_sign t ∷ fs) n refl x k g (e.Unary (id_of t) x) (ap (λ z. e.Unary (id_of t) z) g.part.tree_is) (omega (arith, count))
-                  (λ u u_next. let at = binds-small u in omega arith);
-              strong = omega arith;
-            }))
+    (λ full. deep_at top least i fs s i (unary t (number spare)) [] t (spare ∷ []) (sign, refl, omega arith) (λ some. omega arith) refl (Took-none i.rest) is_next
+    (λ k le. let none : k ≡ 0 = omega arith in let P : ℕ → Type 0 = λ x. i.nested + nesting (unary t (number spare)) x ≤ greatest_nesting in subst P (sym none) (omega arith))
+    (let one = unary-at t (number spare) 0 in omega (arith, one)))
+    (λ j took last count within.
+    let n = inner-unary least i fs t j small sign took last count (omega (arith, count, within)) in
+    judged_then top (Good 12 (under_sign t ∷ fs) j) (IsOperand fs i) (expr 12 j) _
+    (reader 12 (omega arith) j (under_sign t ∷ fs) (inside top least i fs 12 j (under_sign t ∷ fs) s n) (omega (arith, count)))
+    (λ x k g. record {
+      part = wrapped least i fs 12 j (under_sign t ∷ fs) n refl x k g (e.Unary (id_of t) x) (ap (λ z. e.Unary (id_of t) z) g.part.tree_is) (omega (arith, count))
+          (λ u u_next. let at = binds-small u in omega arith);
+      strong = omega arith;
+    }))
 
 -- ---- a sign between operands
 
@@ -113,25 +113,27 @@ judged_operation top expr depth reader least small i fs s enough tree j tighter 
     let le = p.binds_less t is_next in
     let over = binary p.phrase t (number spare) in
     risen top j t (λ x k. IsTighter least fs i x k × (length k.rest < length j.rest)) _ is_next
-      (λ full. deep_at top least i fs s j over (tokens_of p.phrase) t (spare ∷ []) (omega arith, p.in_grammar, le, refl, let at = binds-small t in omega arith)
-          (λ some. above) (sym (append_assoc (tokens_of p.phrase) (t ∷ []) (spare ∷ []))) p.took is_next
-          (λ m within. let here = operands-first lp (nesting p.phrase) (operators p.phrase + 1) (nesting (number spare)) m within in
-              let fine = p.shallow m within in omega (arith, here, fine))
-          (let here = operands-second lp (nesting p.phrase) (operators p.phrase + 1) (nesting (number spare)) 0 in omega (arith, here, p.nested_is, p.small, full)))
-      (λ k took last count within.
-        let n = inner-binary least i fs s.holds tree j p t k above le took last count within in
-        let gs = behind_left (tree_of p.phrase) t ∷ fs in
-        let at = binds-small t in
-        judged_then top (Good (binds t) gs k) (λ x m. IsTighter least fs i x m × (length m.rest < length j.rest)) (expr (binds t) k) _
-          (reader (binds t) (omega arith) k gs (inside top least i fs (binds t) k gs s n) (omega (arith, count, p.nested_is)))
-          (λ x m g. (record {
-              part = wrapped least i fs (binds t) k gs n refl x m g (e.Binary (id_of t) tree x)
-                  (ap (λ z. e.Binary (id_of t) z (tree_of g.part.phrase)) p.tree_is ∙ ap (λ z. e.Binary (id_of t) tree z) g.part.tree_is)
-                  (omega (arith, count, p.nested_is)) g.stops;
-              fits = λ some. above;
-              some = omega arith;
-            },
-            Took-shorter j.rest m.rest (tokens_of g.part.phrase) t (Took-then j.rest k.rest m.rest (t ∷ []) (tokens_of g.part.phrase) took g.part.took))))
+    (λ full. deep_at top least i fs s j over (tokens_of p.phrase) t (spare ∷ []) (omega arith, p.in_grammar, le, refl, let at = binds-small t in omega arith)
+    (λ some. above) (sym (append_assoc (tokens_of p.phrase) (t ∷ []) (spare ∷ []))) p.took is_next
+    (λ m within. let here = operands-first lp (nesting p.phrase) (operators p.phrase + 1) (nesting (number spare)) m within in
+    let fine = p.shallow m within in omega (arith, here, fine))
+    (let here = operands-second lp (nesting p.phrase) (operators p.phrase + 1) (nesting (number spare)) 0 in omega (arith, here, p.nested_is, p.small, full)))
+    (λ k took last count within.
+    let n = inner-binary least i fs s.holds tree j p t k above le took last count within in
+    let gs = behind_left (tree_of p.phrase) t ∷ fs in
+    let at = binds-small t in
+    judged_then top (Good (binds t) gs k) (λ x m. IsTighter least fs i x m × (length m.rest < length j.rest)) (expr (binds t) k) _
+    (reader (binds t) (omega arith) k gs (inside top least i fs (binds t) k gs s n) (omega (arith, count, p.nested_is)))
+    (λ x m g. (
+      record {
+        part = wrapped least i fs (binds t) k gs n refl x m g (e.Binary (id_of t) tree x)
+            (ap (λ z. e.Binary (id_of t) z (tree_of g.part.phrase)) p.tree_is ∙ ap (λ z. e.Binary (id_of t) tree z) g.part.tree_is)
+            (omega (arith, count, p.nested_is)) g.stops;
+        fits = λ some. above;
+        some = omega arith;
+      },
+      Took-shorter j.rest m.rest (tokens_of g.part.phrase) t (Took-then j.rest k.rest m.rest (t ∷ []) (tokens_of g.part.phrase) took g.part.took),
+    )))
 
 -- what was read where no tighter sign comes next
 pub record IsClimbed (least : ℕ) (fs : List Frame) (i : Input) (tree : Expr) (j : Input) : Type 0 where
@@ -159,8 +161,8 @@ climb_at top expr depth reader least small i fs s enough n rec tree j tighter le
 climb_at top expr depth reader least small i fs s enough n rec tree j tighter le None h false (inr test) = absurd (omega (arith, test.1))
 climb_at top expr depth reader least small i fs s enough n rec tree j tighter le (Some t) h false (inr test) =
     judged_then top (λ x k. IsTighter least fs i x k × (length k.rest < length j.rest)) (IsClimbed least fs i) (operation expr tree (binds t) j) (climb expr least n)
-      (judged_operation top expr depth reader least small i fs s enough tree j tighter t h test.1)
-      (λ x k g. rec x k g.0 (omega (arith, g.1)))
+    (judged_operation top expr depth reader least small i fs s enough tree j tighter t h test.1)
+    (λ x k g. rec x k g.0 (omega (arith, g.1)))
 
 judged_climb : (top : Input) (expr : ℕ → Parser Expr) (depth : ℕ) → IsReader top expr depth → (least : ℕ) → least ≤ 12
     → (i : Input) (fs : List Frame) → Spot top least i fs → greatest_nesting + 1 ≤ i.nested + suc depth
@@ -170,7 +172,7 @@ judged_climb top expr depth reader least small i fs s enough zero tree j tighter
     record { tighter = tighter; stops = λ t is_next. absurd (empty_next j.rest t le is_next) }
 judged_climb top expr depth reader least small i fs s enough (suc n) tree j tighter le =
     climb_at top expr depth reader least small i fs s enough n (judged_climb top expr depth reader least small i fs s enough n) tree j tighter le
-      (front_of (past_marks j.rest)) refl _ (leb_tells (binds_next (front_of (past_marks j.rest))) least)
+    (front_of (past_marks j.rest)) refl _ (leb_tells (binds_next (front_of (past_marks j.rest))) least)
 
 pub judged_operations : (top : Input) (expr : ℕ → Parser Expr) (depth : ℕ) → IsReader top expr depth → (least : ℕ) → least ≤ 12
     → (i : Input) (fs : List Frame) → Spot top least i fs → greatest_nesting + 1 ≤ i.nested + suc depth
@@ -230,20 +232,20 @@ judged_second top expr depth reader i fs s enough tree j p some t is k took last
     let q = g.part in
     let gs = in_second (tree_of p.phrase) t (tree_of q.phrase) ∷ fs in
     let stepped : step u (steps (wants (in_first (tree_of p.phrase) t ∷ fs)) (tokens_of q.phrase)) ≡ wants gs =
-          in-brackets (in_first (tree_of p.phrase) t) fs q.phrase (reads_phrase q.phrase q.in_grammar) tt refl u (end-colon u colon) ∙ rw colon refl in
+    in-brackets (in_first (tree_of p.phrase) t) fs q.phrase (reads_phrase q.phrase q.in_grammar) tt refl u (end-colon u colon) ∙ rw colon refl in
     let n = inner-second i fs s.holds tree j p t k x l (in_first (tree_of p.phrase) t ∷ fs) q u (after l) some is colon took last count
-          (Took-after l u u_next) (after-last l) (after-nested l) stepped in
+    (Took-after l u u_next) (after-last l) (after-nested l) stepped in
     judged_then top (Good 0 gs (after l)) (Good 0 fs i) (expr 0 (after l)) (λ y m. Ok (e.Choice (id_of t) tree x y, m))
-      (reader 0 (omega arith) (after l) gs (inside top 0 i fs 0 (after l) gs s n) (omega (arith, after-nested l, q.nested_is, count, p.nested_is)))
-      (λ y m r. record {
-          part = wrapped 0 i fs 0 (after l) gs n refl y m r (e.Choice (id_of t) tree x y)
-              (ap (λ z. e.Choice (id_of t) z (tree_of q.phrase) (tree_of r.part.phrase)) p.tree_is
-                ∙ ap (λ z. e.Choice (id_of t) tree z (tree_of r.part.phrase)) q.tree_is ∙ ap (λ z. e.Choice (id_of t) tree x z) r.part.tree_is)
-              (omega (arith, after-nested l, q.nested_is, count, p.nested_is)) r.stops;
-          fits = λ none. absurd (omega arith);
-          stops = r.stops;
-          no_question = r.no_question;
-        })
+    (reader 0 (omega arith) (after l) gs (inside top 0 i fs 0 (after l) gs s n) (omega (arith, after-nested l, q.nested_is, count, p.nested_is)))
+    (λ y m r. record {
+      part = wrapped 0 i fs 0 (after l) gs n refl y m r (e.Choice (id_of t) tree x y)
+          (ap (λ z. e.Choice (id_of t) z (tree_of q.phrase) (tree_of r.part.phrase)) p.tree_is
+          ∙ ap (λ z. e.Choice (id_of t) tree z (tree_of r.part.phrase)) q.tree_is ∙ ap (λ z. e.Choice (id_of t) tree x z) r.part.tree_is)
+          (omega (arith, after-nested l, q.nested_is, count, p.nested_is)) r.stops;
+      fits = λ none. absurd (omega arith);
+      stops = r.stops;
+      no_question = r.no_question;
+    })
 
 pub judged_chosen : (top : Input) (expr : ℕ → Parser Expr) (depth : ℕ) → IsReader top expr depth → (i : Input) (fs : List Frame) → Spot top 0 i fs
     → greatest_nesting + 1 ≤ i.nested + suc depth → (tree : Expr) (j : Input) (p : Part fs i tree j) → 0 < strength p.phrase
@@ -253,25 +255,25 @@ judged_chosen top expr depth reader i fs s enough tree j p some t is_next is =
     let lp = length (tokens_of p.phrase) in
     let over = choice p.phrase t (number spare) colon_sign (number spare) in
     risen top j t (Good 0 fs i) _ is_next
-      (λ full. deep_at top 0 i fs s j over (tokens_of p.phrase) t (spare ∷ colon_sign ∷ spare ∷ [])
-          (is, p.in_grammar, some, refl, colon_is, refl) (λ none. absurd (omega arith))
-          (append_assoc (tokens_of p.phrase) (t ∷ spare ∷ []) (colon_sign ∷ spare ∷ []) ∙ sym (append_assoc (tokens_of p.phrase) (t ∷ []) (spare ∷ colon_sign ∷ spare ∷ []))) p.took is_next
-          (λ m within. let here = operands-first lp (nesting p.phrase) (operators p.phrase + 1) one_operand m within in let fine = p.shallow m within in omega (arith, here, fine))
-          (let here = operands-second lp (nesting p.phrase) (operators p.phrase + 1) one_operand 0 in
-            let none = operands-first 1 (nesting (number spare)) 0 (nesting (number spare)) 0 (omega arith) in omega (arith, here, none, p.nested_is, p.small, full)))
-      (λ k took last count within.
-        let gs = in_first (tree_of p.phrase) t ∷ fs in
-        let n = inner-first i fs s.holds tree j p t colon_sign k some is colon_is took last count within in
-        let spot = inside top 0 i fs 0 k gs s n in
-        judged_then top (Good 0 gs k) (Good 0 fs i) (expr 0 k) _
-          (reader 0 (omega arith) k gs spot (omega (arith, count, p.nested_is)))
-          (λ x l g.
-            judged_then top (λ _ m. (m ≡ after l) × ((u : Token) × (Next l.rest u × (is_this (codes ":") u ≡ true)))) (Good 0 fs i) (expect (codes ":") l) _
-              (judged_expect top l (codes ":") (λ no. stuck_at top 0 k gs spot l g.part.phrase (tokens_of g.part.phrase) [] g.part.in_grammar g.fits
-                  (sym (append-nil (tokens_of g.part.phrase))) g.part.took g.part.last_is g.part.shallow
-                  (λ u u_next. whole_fails (in_first (tree_of p.phrase) t) fs g.part.phrase g.part.in_grammar tt refl u (g.stops u u_next) (g.no_question refl u u_next)
-                      (g.part.no_select u u_next) (rw (no u u_next) refl))
-                  (whole_unfinished (in_first (tree_of p.phrase) t) fs g.part.phrase g.part.in_grammar tt refl)))
-              (λ _ m found.
-                let P : Input → Type 0 = λ z. Judged top (Good 0 fs i) (and_then (expr 0 z) (λ y w. Ok (e.Choice (id_of t) tree x y, w))) in
-                subst P (sym found.0) (judged_second top expr depth reader i fs s enough tree j p some t is k took last count x l g found.1.0 found.1.1.0 found.1.1.1))))
+    (λ full. deep_at top 0 i fs s j over (tokens_of p.phrase) t (spare ∷ colon_sign ∷ spare ∷ [])
+    (is, p.in_grammar, some, refl, colon_is, refl) (λ none. absurd (omega arith))
+    (append_assoc (tokens_of p.phrase) (t ∷ spare ∷ []) (colon_sign ∷ spare ∷ []) ∙ sym (append_assoc (tokens_of p.phrase) (t ∷ []) (spare ∷ colon_sign ∷ spare ∷ []))) p.took is_next
+    (λ m within. let here = operands-first lp (nesting p.phrase) (operators p.phrase + 1) one_operand m within in let fine = p.shallow m within in omega (arith, here, fine))
+    (let here = operands-second lp (nesting p.phrase) (operators p.phrase + 1) one_operand 0 in
+    let none = operands-first 1 (nesting (number spare)) 0 (nesting (number spare)) 0 (omega arith) in omega (arith, here, none, p.nested_is, p.small, full)))
+    (λ k took last count within.
+    let gs = in_first (tree_of p.phrase) t ∷ fs in
+    let n = inner-first i fs s.holds tree j p t colon_sign k some is colon_is took last count within in
+    let spot = inside top 0 i fs 0 k gs s n in
+    judged_then top (Good 0 gs k) (Good 0 fs i) (expr 0 k) _
+    (reader 0 (omega arith) k gs spot (omega (arith, count, p.nested_is)))
+    (λ x l g.
+    judged_then top (λ _ m. (m ≡ after l) × ((u : Token) × (Next l.rest u × (is_this (codes ":") u ≡ true)))) (Good 0 fs i) (expect (codes ":") l) _
+    (judged_expect top l (codes ":") (λ no. stuck_at top 0 k gs spot l g.part.phrase (tokens_of g.part.phrase) [] g.part.in_grammar g.fits
+    (sym (append-nil (tokens_of g.part.phrase))) g.part.took g.part.last_is g.part.shallow
+    (λ u u_next. whole_fails (in_first (tree_of p.phrase) t) fs g.part.phrase g.part.in_grammar tt refl u (g.stops u u_next) (g.no_question refl u u_next)
+    (g.part.no_select u u_next) (rw (no u u_next) refl))
+    (whole_unfinished (in_first (tree_of p.phrase) t) fs g.part.phrase g.part.in_grammar tt refl)))
+    (λ _ m found.
+    let P : Input → Type 0 = λ z. Judged top (Good 0 fs i) (and_then (expr 0 z) (λ y w. Ok (e.Choice (id_of t) tree x y, w))) in
+    subst P (sym found.0) (judged_second top expr depth reader i fs s enough tree j p some t is k took last count x l g found.1.0 found.1.1.0 found.1.1.1))))

@@ -54,15 +54,15 @@ pub shallow_in : (top : Input) (least : ℕ) (i : Input) (fs : List Frame) (s : 
     → (k : ℕ) → k ≤ length s.before + n → top.nested + nesting (s.wrap q) k ≤ greatest_nesting
 shallow_in top least i fs s q n within low k le =
     elim (cases_le k (length s.before)) [
-      inl short ↦ s.shallow q k short
-    | inr long ↦
-        let at : k ≡ length s.before + (k - length s.before) = omega arith in
-        let here : k - length s.before ≤ n = omega arith in
-        let inner : top.nested + nesting (s.wrap q) (length s.before + (k - length s.before)) ≡ i.nested + nesting q (k - length s.before) =
-              s.nest q (k - length s.before) (omega (arith, here, within)) in
-        let fine = low (k - length s.before) here in
-        let P : ℕ → Type 0 = λ x. top.nested + nesting (s.wrap q) x ≤ greatest_nesting in
-        subst P (sym at) (omega (arith, inner, fine))
+      | inl short ↦ s.shallow q k short
+      | inr long ↦
+          let at : k ≡ length s.before + (k - length s.before) = omega arith in
+          let here : k - length s.before ≤ n = omega arith in
+          let inner : top.nested + nesting (s.wrap q) (length s.before + (k - length s.before)) ≡ i.nested + nesting q (k - length s.before) =
+          s.nest q (k - length s.before) (omega (arith, here, within)) in
+          let fine = low (k - length s.before) here in
+          let P : ℕ → Type 0 = λ x. top.nested + nesting (s.wrap q) x ≤ greatest_nesting in
+          subst P (sym at) (omega (arith, inner, fine))
     ]
 
 front-within : (q run tail : List Token) → q ≡ run ++ tail → length run ≤ length q
@@ -113,11 +113,12 @@ deep_at top least i fs s j q run t tail h fits whole took is_next low reached =
         in_grammar = s.grammar q h fits;
         tail = tail ++ s.after_it;
         whole = s.tokens q ∙ ap (λ x. s.before ++ (x ++ s.after_it)) whole ∙ parts s.before (run ++ t ∷ []) tail s.after_it
-            ∙ ap (λ x. x ++ (tail ++ s.after_it)) (sym (append_assoc s.before run (t ∷ []))) };
+            ∙ ap (λ x. x ++ (tail ++ s.after_it)) (sym (append_assoc s.before run (t ∷ [])));
+      };
       shallow = λ k le. shallow_in top least i fs s q (length run) (omega (arith, here)) low k (omega (arith, le, length-append s.before run));
       reached =
-        let at : length (s.before ++ run) + 1 ≡ length s.before + (length run + 1) = omega (arith, length-append s.before run) in
-        ap (λ x. top.nested + nesting (s.wrap q) x) at ∙ s.nest q (length run + 1) here ∙ reached;
+          let at : length (s.before ++ run) + 1 ≡ length s.before + (length run + 1) = omega (arith, length-append s.before run) in
+          ap (λ x. top.nested + nesting (s.wrap q) x) at ∙ s.nest q (length run + 1) here ∙ reached;
       refused = refl;
     })
 
@@ -130,7 +131,7 @@ deep-next last (u ∷ a) t h = let same : u ≡ t = cc in ap nesting_refusal sam
 rise_by_test : (top i : Input) (c : Bool) → ((c ≡ true) × (suc i.nested ≤ greatest_nesting)) ⊎ ((c ≡ false) × (greatest_nesting < suc i.nested))
     → (greatest_nesting ≤ i.nested → IsFinal top (too_deep i))
     → Judged top (λ _ j. (j ≡ record i { nested = i.nested + 1 }) × (i.nested + 1 ≤ greatest_nesting))
-        (if c then Ok (tt {0}, record i { nested = i.nested + 1 }) else Err (too_deep i))
+    (if c then Ok (tt {0}, record i { nested = i.nested + 1 }) else Err (too_deep i))
 rise_by_test top i true (inl h) deep = (refl, omega arith)
 rise_by_test top i true (inr h) deep = absurd cc
 rise_by_test top i false (inl h) deep = absurd cc
@@ -198,14 +199,14 @@ pub risen : {B : Type 0} (top i : Input) (t : Token) (good : B → Input → Typ
     → Judged top good (and_then (rise i) (λ _ i1. and_then (take_id i1) f))
 risen top i t good f is_next deep k =
     judged_then top (λ _ j. (j ≡ record i { nested = i.nested + 1 }) × (i.nested + 1 ≤ greatest_nesting)) good (rise i) (λ _ i1. and_then (take_id i1) f)
-      (judged_rise top i t is_next deep)
-      (λ _ i1 g.
-        let rest : i1.rest ≡ i.rest = ap (λ x. x.rest) g.0 in
-        let here : Next i1.rest t = ap (λ ts. front_of (past_marks ts)) rest ∙ is_next in
-        let count : (after i1).nested ≡ i.nested + 1 = after-nested i1 ∙ ap (λ x. x.nested) g.0 in
-        let P : List Token → Type 0 = λ ts. Took ts (after i1).rest (t ∷ []) in
-        judged_take top good i1 t f here
-          (k (after i1) (subst P rest (Took-after i1 t here)) (after-last i1 ∙ ap (λ x. x.last) g.0) count (omega (arith, count, g.1))))
+    (judged_rise top i t is_next deep)
+    (λ _ i1 g.
+    let rest : i1.rest ≡ i.rest = ap (λ x. x.rest) g.0 in
+    let here : Next i1.rest t = ap (λ ts. front_of (past_marks ts)) rest ∙ is_next in
+    let count : (after i1).nested ≡ i.nested + 1 = after-nested i1 ∙ ap (λ x. x.nested) g.0 in
+    let P : List Token → Type 0 = λ ts. Took ts (after i1).rest (t ∷ []) in
+    judged_take top good i1 t f here
+    (k (after i1) (subst P rest (Took-after i1 t here)) (after-last i1 ∙ ap (λ x. x.last) g.0) count (omega (arith, count, g.1))))
 
 pub spot-small : (top : Input) (least : ℕ) (i : Input) (fs : List Frame) → Spot top least i fs → i.nested ≤ greatest_nesting
 spot-small top least i fs s =

@@ -109,36 +109,36 @@ inside-shallow : (top : Input) (least : ℕ) (i : Input) (fs : List Frame) (inne
     → top.nested + nesting (s.wrap (n.wrap q)) k ≤ greatest_nesting
 inside-shallow top least i fs inner j gs s n q k le =
     elim (cases_le k (length s.before)) [
-      inl low ↦ s.shallow (n.wrap q) k low
-    | inr high ↦
-        let at : k ≡ length s.before + (k - length s.before) = omega arith in
-        let short : k - length s.before ≤ length n.before = omega arith in
-        let within : k - length s.before ≤ length (tokens_of (n.wrap q)) =
-              omega (arith, short, before-within n.before (tokens_of q) n.after_it (tokens_of (n.wrap q)) (n.tokens q) 0 (omega arith)) in
-        let deep : top.nested + nesting (s.wrap (n.wrap q)) (length s.before + (k - length s.before)) ≡ i.nested + nesting (n.wrap q) (k - length s.before) =
-              s.nest (n.wrap q) (k - length s.before) within in
-        let low = n.shallow q (k - length s.before) short in
-        let P : ℕ → Type 0 = λ x. top.nested + nesting (s.wrap (n.wrap q)) x ≤ greatest_nesting in
-        subst P (sym at) (omega (arith, deep, low))
+      | inl low ↦ s.shallow (n.wrap q) k low
+      | inr high ↦
+          let at : k ≡ length s.before + (k - length s.before) = omega arith in
+          let short : k - length s.before ≤ length n.before = omega arith in
+          let within : k - length s.before ≤ length (tokens_of (n.wrap q)) =
+          omega (arith, short, before-within n.before (tokens_of q) n.after_it (tokens_of (n.wrap q)) (n.tokens q) 0 (omega arith)) in
+          let deep : top.nested + nesting (s.wrap (n.wrap q)) (length s.before + (k - length s.before)) ≡ i.nested + nesting (n.wrap q) (k - length s.before) =
+          s.nest (n.wrap q) (k - length s.before) within in
+          let low = n.shallow q (k - length s.before) short in
+          let P : ℕ → Type 0 = λ x. top.nested + nesting (s.wrap (n.wrap q)) x ≤ greatest_nesting in
+          subst P (sym at) (omega (arith, deep, low))
     ]
 
 -- a place inside, as a place of the whole
 pub inside : (top : Input) (least : ℕ) (i : Input) (fs : List Frame) (inner : ℕ) (j : Input) (gs : List Frame)
     → Spot top least i fs → Inner least i fs inner j gs → Spot top inner j gs
 inside top least i fs inner j gs s n = record {
-    before = s.before ++ n.before;
-    after_it = n.after_it ++ s.after_it;
-    wrap = λ q. s.wrap (n.wrap q);
-    tokens = λ q. s.tokens (n.wrap q) ∙ in_three s.before n.before (tokens_of q) n.after_it s.after_it (tokens_of (n.wrap q)) (n.tokens q);
-    grammar = λ q h k. s.grammar (n.wrap q) (n.grammar q h k) (n.fits q k);
-    nest = λ q m le.
-        let at : length (s.before ++ n.before) + m ≡ length s.before + (length n.before + m) = omega (arith, length-append s.before n.before) in
-        ap (λ x. top.nested + nesting (s.wrap (n.wrap q)) x) at
-          ∙ s.nest (n.wrap q) (length n.before + m) (before-within n.before (tokens_of q) n.after_it (tokens_of (n.wrap q)) (n.tokens q) m le)
-          ∙ n.nest q m le;
-    shallow = λ q k le. inside-shallow top least i fs inner j gs s n q k (omega (arith, length-append s.before n.before, le));
-    took = Took-then top.rest i.rest j.rest s.before n.before s.took n.took;
-    last_is = n.last_is ∙ s.last_is;
-    state = steps-append (wants []) s.before n.before ∙ ap (λ x. steps x n.before) s.state ∙ n.state;
-    holds = n.holds;
-  }
+  before = s.before ++ n.before;
+  after_it = n.after_it ++ s.after_it;
+  wrap = λ q. s.wrap (n.wrap q);
+  tokens = λ q. s.tokens (n.wrap q) ∙ in_three s.before n.before (tokens_of q) n.after_it s.after_it (tokens_of (n.wrap q)) (n.tokens q);
+  grammar = λ q h k. s.grammar (n.wrap q) (n.grammar q h k) (n.fits q k);
+  nest = λ q m le.
+      let at : length (s.before ++ n.before) + m ≡ length s.before + (length n.before + m) = omega (arith, length-append s.before n.before) in
+      ap (λ x. top.nested + nesting (s.wrap (n.wrap q)) x) at
+      ∙ s.nest (n.wrap q) (length n.before + m) (before-within n.before (tokens_of q) n.after_it (tokens_of (n.wrap q)) (n.tokens q) m le)
+      ∙ n.nest q m le;
+  shallow = λ q k le. inside-shallow top least i fs inner j gs s n q k (omega (arith, length-append s.before n.before, le));
+  took = Took-then top.rest i.rest j.rest s.before n.before s.took n.took;
+  last_is = n.last_is ∙ s.last_is;
+  state = steps-append (wants []) s.before n.before ∙ ap (λ x. steps x n.before) s.state ∙ n.state;
+  holds = n.holds;
+}

@@ -32,11 +32,11 @@ grammar_tokens-append (t ∷ a) b =
 
 pub Took-then : (a b c r s : List Token) → Took a b r → Took b c s → Took a c (r ++ s)
 Took-then a b c r s x y = record {
-    front = x.front ++ y.front;
-    split = x.split ∙ ap (λ ts. x.front ++ ts) y.split ∙ sym (append_assoc x.front y.front c);
-    ends = EndsInGrammar-append x.front y.front x.ends y.ends;
-    run_is = grammar_tokens-append x.front y.front ∙ ap (λ ts. ts ++ grammar_tokens y.front) x.run_is ∙ ap (λ ts. r ++ ts) y.run_is;
-  }
+  front = x.front ++ y.front;
+  split = x.split ∙ ap (λ ts. x.front ++ ts) y.split ∙ sym (append_assoc x.front y.front c);
+  ends = EndsInGrammar-append x.front y.front x.ends y.ends;
+  run_is = grammar_tokens-append x.front y.front ∙ ap (λ ts. ts ++ grammar_tokens y.front) x.run_is ∙ ap (λ ts. r ++ ts) y.run_is;
+}
 
 -- the next token of the grammar stands first of those that are left
 front-marked : (c : Bool) (t : Token) (a b : List Token) → front_of a ≡ front_of b → front_of (if c then a else t ∷ a) ≡ front_of (if c then b else t ∷ b)

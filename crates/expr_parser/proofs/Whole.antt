@@ -30,7 +30,7 @@ braced_by : (top : Input) (expr : ℕ → Parser Expr) (depth : ℕ) → IsReade
     → greatest_nesting + 1 ≤ i.nested + suc depth → (o : Token) → Is (codes "{") o → (j : Input) → Took i.rest j.rest (o ∷ []) → j.last ≡ i.last → j.nested ≡ i.nested + 1 → j.nested ≤ greatest_nesting
     → (x : Expr) (k : Input) → IsWhole (in_braces o [] ∷ fs) j x k → (c : Bool) → sees (codes "{") k ≡ c
     → Judged top (IsBraced top fs i)
-        (if c then and_then (repeated expr k) (λ parts m. Ok (e.Repeat o.place x parts, m)) else and_then (reading.more expr x k) (λ parts m. Ok (e.Concat o.place parts, m)))
+    (if c then and_then (repeated expr k) (λ parts m. Ok (e.Repeat o.place x parts, m)) else and_then (reading.more expr x k) (λ parts m. Ok (e.Concat o.place parts, m)))
 braced_by top expr depth reader least small i fs s enough o is j took last count within x k w false h =
     judged_concat top expr depth reader least small i fs s enough o is j took last count within x k w h
 braced_by top expr depth reader least small i fs s enough o is j took last count within x k w true h =
@@ -44,29 +44,29 @@ judged_braced top expr depth reader least small i fs s enough o o_next is =
     let fine = spot-small top least i fs s in
     let over = concat o (only (number spare)) (sign_token (codes "}")) in
     opened top i (codes "{") o (IsOperand fs i) _ o_next is
-      (λ full. deep_at top least i fs s i over [] o (spare ∷ sign_token (codes "}") ∷ []) (is, refl, close_brace_is) (λ some. omega arith) refl (Took-none i.rest) o_next
-          (λ k le. one_shallow_none i over refl fine k le)
-          (let one = in_brackets-at 1 (nesting (number spare)) 0 (omega arith) in omega (arith, one, full)))
-      (λ j took last count within.
-        let place = concat_place least i fs o j small is took last count within in
-        let gs = in_braces o [] ∷ fs in
-        judged_then top (IsWhole gs j) (IsOperand fs i) (whole expr j) _
-          (judged_whole top expr depth reader j gs (inside top least i fs 0 j gs s (first_inner least i fs (in_braces o) j place)) (omega (arith, count)))
-          (λ x k w.
-            judged_then top (IsBraced top fs i) (IsOperand fs i) (braced_from expr o.place x k) _
-              (braced_by top expr depth reader least small i fs s enough o is j took last count within x k w _ refl)
-              (λ tree m b.
-                judged_then top (λ _ z. (z ≡ after m) × ((c : Token) × (Next m.rest c × (is_this (codes "}") c ≡ true)))) (IsOperand fs i) (expect (codes "}") m) _
-                  (judged_expect top m (codes "}") b.stuck)
-                  (λ _ z closing.
-                    let c = closing.1.0 in
-                    let c_is = closing.1.1.1 in
-                    let P : Input → Type 0 = λ y. Took m.rest y.rest (c ∷ []) in
-                    let Q : List Token → Type 0 = λ ts. Took i.rest z.rest ts in
-                    primary_at fs i (b.phrase c) (b.grammar c c_is) tree (b.tree_is c) (b.strong c) (b.none c) (record z { nested = i.nested })
-                      (subst Q (sym (b.tokens c)) (Took-then i.rest m.rest z.rest b.body (c ∷ []) b.took (subst P (sym closing.0) (Took-after m c closing.1.1.0))))
-                      (ap (λ y. y.last) closing.0 ∙ after-last m ∙ b.last_is) refl fine (λ y le. b.shallow c y)
-                      (λ t t_next t_is. ap (step t) (b.has_it c c_is) ∙ select_fails t t_is _ fs)))))
+    (λ full. deep_at top least i fs s i over [] o (spare ∷ sign_token (codes "}") ∷ []) (is, refl, close_brace_is) (λ some. omega arith) refl (Took-none i.rest) o_next
+    (λ k le. one_shallow_none i over refl fine k le)
+    (let one = in_brackets-at 1 (nesting (number spare)) 0 (omega arith) in omega (arith, one, full)))
+    (λ j took last count within.
+    let place = concat_place least i fs o j small is took last count within in
+    let gs = in_braces o [] ∷ fs in
+    judged_then top (IsWhole gs j) (IsOperand fs i) (whole expr j) _
+    (judged_whole top expr depth reader j gs (inside top least i fs 0 j gs s (first_inner least i fs (in_braces o) j place)) (omega (arith, count)))
+    (λ x k w.
+    judged_then top (IsBraced top fs i) (IsOperand fs i) (braced_from expr o.place x k) _
+    (braced_by top expr depth reader least small i fs s enough o is j took last count within x k w _ refl)
+    (λ tree m b.
+    judged_then top (λ _ z. (z ≡ after m) × ((c : Token) × (Next m.rest c × (is_this (codes "}") c ≡ true)))) (IsOperand fs i) (expect (codes "}") m) _
+    (judged_expect top m (codes "}") b.stuck)
+    (λ _ z closing.
+    let c = closing.1.0 in
+    let c_is = closing.1.1.1 in
+    let P : Input → Type 0 = λ y. Took m.rest y.rest (c ∷ []) in
+    let Q : List Token → Type 0 = λ ts. Took i.rest z.rest ts in
+    primary_at fs i (b.phrase c) (b.grammar c c_is) tree (b.tree_is c) (b.strong c) (b.none c) (record z { nested = i.nested })
+    (subst Q (sym (b.tokens c)) (Took-then i.rest m.rest z.rest b.body (c ∷ []) b.took (subst P (sym closing.0) (Took-after m c closing.1.1.0))))
+    (ap (λ y. y.last) closing.0 ∙ after-last m ∙ b.last_is) refl fine (λ y le. b.shallow c y)
+    (λ t t_next t_is. ap (step t) (b.has_it c c_is) ∙ select_fails t t_is _ fs)))))
 
 -- ---- no operand begins here
 
@@ -100,7 +100,7 @@ wanted_stuck : (top : Input) (least : ℕ) (i : Input) (fs : List Frame) → lea
 wanted_stuck top least i fs small s none =
     let fine = spot-small top least i fs s in
     stuck_at top least i fs s i (number spare) [] (spare ∷ []) refl (λ some. omega arith) refl (Took-none i.rest) refl
-      (λ k le. omega arith) (λ t t_next. ap (λ z. begun z t fs) (none t t_next)) (λ x gs is. absurd (no_operand (x, gs) is))
+    (λ k le. omega arith) (λ t t_next. ap (λ z. begun z t fs) (none t t_next)) (λ x gs is. absurd (no_operand (x, gs) is))
 
 next_same : (o : Option Token) (t u : Token) → o ≡ Some t → o ≡ Some u → t ≡ u
 next_same o t u a b = let same : Some t ≡ Some u = sym a ∙ b in cc
@@ -120,17 +120,17 @@ group_judged top fs i o (Err e) h keep = h
 -- the choice of a reading function, where it is made before what is left is looked at
 by_kind : (a b c d : Bool) (top : Input) (fs : List Frame) (i : Input) (expr : ℕ → Parser Expr)
     → Judged top (IsOperand fs i)
-        (if a then and_then (take_id i) (λ x k. Ok (e.Number x, k))
-        else (if b then and_then (take_id i) (λ x k. Ok (e.Fill x, k))
-        else (if c then read expr i
-        else (if d then system expr i
-        else (if sees (codes "(") i then parenthesised expr i else (if sees (codes "{") i then braced expr i else refuse i))))))
+    (if a then and_then (take_id i) (λ x k. Ok (e.Number x, k))
+    else (if b then and_then (take_id i) (λ x k. Ok (e.Fill x, k))
+    else (if c then read expr i
+    else (if d then system expr i
+    else (if sees (codes "(") i then parenthesised expr i else (if sees (codes "{") i then braced expr i else refuse i))))))
     → Judged top (IsOperand fs i)
-        ((if a then (λ j. and_then (take_id j) (λ x k. Ok (e.Number x, k)))
-        else (if b then (λ j. and_then (take_id j) (λ x k. Ok (e.Fill x, k)))
-        else (if c then read expr
-        else (if d then system expr
-        else (λ j. if sees (codes "(") j then parenthesised expr j else (if sees (codes "{") j then braced expr j else refuse j)))))) i)
+    ((if a then (λ j. and_then (take_id j) (λ x k. Ok (e.Number x, k)))
+    else (if b then (λ j. and_then (take_id j) (λ x k. Ok (e.Fill x, k)))
+    else (if c then read expr
+    else (if d then system expr
+    else (λ j. if sees (codes "(") j then parenthesised expr j else (if sees (codes "{") j then braced expr j else refuse j)))))) i)
 by_kind true b c d top fs i expr h = h
 by_kind false true c d top fs i expr h = h
 by_kind false false true d top fs i expr h = h
@@ -141,11 +141,11 @@ primary_some : (top : Input) (expr : ℕ → Parser Expr) (depth : ℕ) → IsRe
     → greatest_nesting + 1 ≤ i.nested + suc depth → (t : Token) → Next i.rest t → is_unary t ≡ false
     → (a b c d g h : Bool) → is_number t.kind ≡ a → is_fill t.kind ≡ b → is_identifier t ≡ c → is_function t ≡ d → sees (codes "(") i ≡ g → sees (codes "{") i ≡ h
     → Judged top (IsOperand fs i)
-        (if a then and_then (take_id i) (λ x k. Ok (e.Number x, k))
-        else (if b then and_then (take_id i) (λ x k. Ok (e.Fill x, k))
-        else (if c then read expr i
-        else (if d then system expr i
-        else (if g then parenthesised expr i else (if h then braced expr i else refuse i))))))
+    (if a then and_then (take_id i) (λ x k. Ok (e.Number x, k))
+    else (if b then and_then (take_id i) (λ x k. Ok (e.Fill x, k))
+    else (if c then read expr i
+    else (if d then system expr i
+    else (if g then parenthesised expr i else (if h then braced expr i else refuse i))))))
 primary_some top expr depth reader least small i fs s enough t t_next sign true b c d g h ha hb hc hd hg hh =
     judged_number top i fs (spot-small top least i fs s) t t_next (number_kind t.kind ha)
 primary_some top expr depth reader least small i fs s enough t t_next sign false true c d g h ha hb hc hd hg hh =
@@ -158,15 +158,15 @@ primary_some top expr depth reader least small i fs s enough t t_next sign false
     let found = sees-yes (codes "(") i hg in
     let o = found.0 in
     group_judged top fs i o (parenthesised expr i) (judged_group top expr depth reader least small i fs s enough o found.1.0 found.1.1)
-      (λ x k p. group_operand least i fs (spot-small top least i fs s) o found.1.1 x k p)
+    (λ x k p. group_operand least i fs (spot-small top least i fs s) o found.1.1 x k p)
 primary_some top expr depth reader least small i fs s enough t t_next sign false false false false false true ha hb hc hd hg hh =
     let found = sees-yes (codes "{") i hh in
     judged_braced top expr depth reader least small i fs s enough found.0 found.1.0 found.1.1
 primary_some top expr depth reader least small i fs s enough t t_next sign false false false false false false ha hb hc hd hg hh =
     wanted_stuck top least i fs small s (λ u u_next.
-      let same = next_same (front_of (past_marks i.rest)) t u t_next u_next in
-      let P : Token → Type 0 = λ v. start_of v ≡ no_start in
-      subst P same (none_starts t ha hb hc hd sign (sees-no (codes "(") i hg t t_next) (sees-no (codes "{") i hh t t_next)))
+    let same = next_same (front_of (past_marks i.rest)) t u t_next u_next in
+    let P : Token → Type 0 = λ v. start_of v ≡ no_start in
+    subst P same (none_starts t ha hb hc hd sign (sees-no (codes "(") i hg t t_next) (sees-no (codes "{") i hh t t_next)))
 
 primary_at_next : (top : Input) (expr : ℕ → Parser Expr) (depth : ℕ) → IsReader top expr depth → (least : ℕ) → least ≤ 12 → (i : Input) (fs : List Frame) → Spot top least i fs
     → greatest_nesting + 1 ≤ i.nested + suc depth → NoSign i → (o : Option Token) → front_of (past_marks i.rest) ≡ o → Judged top (IsOperand fs i) (primary_by expr o i)

@@ -39,7 +39,7 @@ abbrev mutual
   nesting (concat opens qs closes) n = in_brackets (length (all_tokens_of qs)) (nestings qs) n
   nesting (repeat opens q inner qs done closes) n =
       in_brackets (length (tokens_of q) + 1 + length (all_tokens_of qs) + 1)
-          (λ k. if nat_le k (length (tokens_of q)) then nesting q k else in_brackets (length (all_tokens_of qs)) (nestings qs) (k - length (tokens_of q))) n
+      (λ k. if nat_le k (length (tokens_of q)) then nesting q k else in_brackets (length (all_tokens_of qs)) (nestings qs) (k - length (tokens_of q))) n
   nesting (call function opens q closes) n = in_brackets (length (tokens_of q)) (nesting q) (n - 1)
   nesting (unary sign q) n = if n == 0 then 0 else 1 + nesting q (n - 1)
   nesting (binary q sign r) n = operands (length (tokens_of q)) (nesting q) (operators q + 1) (nesting r) n

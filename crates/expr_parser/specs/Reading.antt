@@ -121,7 +121,7 @@ module _ (expr : ℕ → Parser Expr) where
       else (if is_fill t.kind then e.Fill <$> take_id
       else (if is_identifier t then read
       else (if is_function t then system else (λ i.
-          if sees (codes "(") i then parenthesised i else (if sees (codes "{") i then braced i else refuse i)))))
+      if sees (codes "(") i then parenthesised i else (if sees (codes "{") i then braced i else refuse i)))))
 
   unfoldable pub primary : Parser Expr
   primary = λ i. primary_by (next i) i

@@ -83,12 +83,7 @@ impl<F: Fn(Global, &mut Cursor<'_>, usize, u8) -> Result<Expr, ParseFault>> Gram
     }
 
     #[tactic(auto, unfolding(crate::specs::Reading::operation))]
-    fn operation(
-        &self,
-        tokens: &mut Cursor<'_>,
-        left: Expr,
-        level: u8,
-    ) -> Result<Expr, ParseFault>
+    fn operation(&self, tokens: &mut Cursor<'_>, left: Expr, level: u8) -> Result<Expr, ParseFault>
         requires { Nests self.now.depth (F.pre self.now.expr) (F.post self.now.expr) }
         ensures { Gives (spec.operation (spec.expr self.now.depth) left level tokens.old) result tokens.new }
     {

@@ -44,7 +44,10 @@ const ROWS: [(&str, &str); 128] = [
     ("a + b << c", "((a + b) << c) 5"),
     ("a << b + c", "(a << (b + c)) 5"),
     ("a >> b - c", "(a >> (b - c)) 5"),
-    ("a << b >> c <<< d >>> e", "((((a << b) >> c) <<< d) >>> e) 9"),
+    (
+        "a << b >> c <<< d >>> e",
+        "((((a << b) >> c) <<< d) >>> e) 9",
+    ),
     ("a <<< b < c", "((a <<< b) < c) 5"),
     ("a < b <<< c", "(a < (b <<< c)) 5"),
     ("a >= b >>> c", "(a >= (b >>> c)) 5"),
@@ -84,8 +87,14 @@ const ROWS: [(&str, &str); 128] = [
     ("a + b * c ** d", "(a + (b * (c ** d))) 7"),
     ("a ** b * c + d", "(((a ** b) * c) + d) 7"),
     ("-a * -b + ~c", "(((- a) * (- b)) + (~ c)) 8"),
-    ("a || b && c | d ^ e & f == g < h << i + j * k ** l", "(a || (b && (c | (d ^ (e & (f == (g < (h << (i + (j * (k ** l))))))))))) 23"),
-    ("a ** b * c + d << e < f == g & h ^ i | j && k || l", "(((((((((((a ** b) * c) + d) << e) < f) == g) & h) ^ i) | j) && k) || l) 23"),
+    (
+        "a || b && c | d ^ e & f == g < h << i + j * k ** l",
+        "(a || (b && (c | (d ^ (e & (f == (g < (h << (i + (j * (k ** l))))))))))) 23",
+    ),
+    (
+        "a ** b * c + d << e < f == g & h ^ i | j && k || l",
+        "(((((((((((a ** b) * c) + d) << e) < f) == g) & h) ^ i) | j) && k) || l) 23",
+    ),
     ("{a}", "{a,} 3"),
     ("{a, b}", "{a,b,} 5"),
     ("{a, {3{b}}, c[7:0]}", "{a,{3{b,}},c[7:0],} 17"),
@@ -102,7 +111,10 @@ const ROWS: [(&str, &str); 128] = [
     ("c[i ? 1 : 0 : 2]", "c[(i ? 1 : 0):2] 10"),
     ("c[a[b[1]]]", "c[a[b[1]]] 10"),
     ("$signed(a)", "$signed(a) 4"),
-    ("$unsigned(a + b) * $clog2(c)", "($unsigned((a + b)) * $clog2(c)) 11"),
+    (
+        "$unsigned(a + b) * $clog2(c)",
+        "($unsigned((a + b)) * $clog2(c)) 11",
+    ),
     ("$clog2 (8)", "$clog2(8) 4"),
     ("a === b", "a 1"),
     ("(a === b)", "Unsupported === 1:1"),
@@ -237,10 +249,7 @@ fn show(out: &mut Vec<u8>, tree: &Expr) -> Result<(), AllocError> {
 }
 
 /// What a run gives, as a row says it.
-fn outcome(
-    alloc: Global,
-    read: Result<(Expr, usize), ParseFault>,
-) -> Result<Vec<u8>, AllocError> {
+fn outcome(alloc: Global, read: Result<(Expr, usize), ParseFault>) -> Result<Vec<u8>, AllocError> {
     let mut out = Vec::new(alloc);
     match read {
         Ok((tree, after)) => {
@@ -268,12 +277,7 @@ fn tokens_of(alloc: Global, text: &[u8]) -> Result<Vec<Token>, Fail> {
     Ok(lex(alloc, 1, text)?.into_vec())
 }
 
-fn check(
-    rt: &impl Abort,
-    alloc: Global,
-    text: &[u8],
-    expected: &str,
-) -> Result<(), Fail> {
+fn check(rt: &impl Abort, alloc: Global, text: &[u8], expected: &str) -> Result<(), Fail> {
     let tokens = tokens_of(alloc, text)?;
     let found = outcome(alloc, parse_expr(alloc, &tokens, 0, 0))?;
     assert_eq!(rt; found.as_slice(), expected.as_bytes(), "{text:?}");
@@ -336,7 +340,13 @@ fn is_whole(alloc: Global, text: &[u8], depth: u32) -> Result<bool, Fail> {
 #[test]
 fn nesting_of_256_is_accepted(rt: HostRuntime) -> Result<(), Fail> {
     let alloc = rt.alloc();
-    for (text, end) in &[("- ", "a"), ("a+", "a"), ("a**", "a"), ("a?b:", "a"), ("!~", "a")] {
+    for (text, end) in &[
+        ("- ", "a"),
+        ("a+", "a"),
+        ("a**", "a"),
+        ("a?b:", "a"),
+        ("!~", "a"),
+    ] {
         let count = if *text == "!~" { 128 } else { 256 };
         let long = repeated(alloc, count, *text, *end)?;
         assert!(rt; is_whole(alloc, long.as_slice(), 0)?, "{text:?}");
@@ -364,7 +374,12 @@ fn marks_change_nothing(rt: HostRuntime) -> Result<(), Fail> {
     let alloc = rt.alloc();
     let mark = "/*verilator hier_block*/";
     let marked = repeated(alloc, 1, mark, "")?;
-    for (text, after) in &[("a + b", 7), ("- ( a [ 1 : 0 ] )", 19), ("{ 2 { c } }", 13), ("$signed ( a ) ? b : c", 17)] {
+    for (text, after) in &[
+        ("a + b", 7),
+        ("- ( a [ 1 : 0 ] )", 19),
+        ("{ 2 { c } }", 13),
+        ("$signed ( a ) ? b : c", 17),
+    ] {
         let mut out = repeated(alloc, 1, mark, "")?;
         for byte in text.as_bytes() {
             if *byte == b' ' {

@@ -16,7 +16,7 @@ returns-in-Ok-clause-read c =
     let start = input_same c.as_slice-2.result.now tokens at depth c.last_place-last.result c.as_slice-2.ensures.value last c.new-cursor.result c.new-cursor.ensures in
     let right = reads_right tokens at depth (primary_is (input_at tokens at depth)) c.requires.place c.requires.nesting c.in-Ok.tree c.any.new.tokens (ap any (sym start) ∙ c.in-Ok.ensures) in
     let count : length tokens - length c.any.new.tokens.rest ≡ c.saturating_sub.result =
-          omega (arith, c.as_slice.ensures.len, ap length c.as_slice.ensures.value, c.len.ensures, c.len-in-Ok.ensures, c.saturating_sub.ensures) in
+    omega (arith, c.as_slice.ensures.len, ap length c.as_slice.ensures.value, c.len.ensures, c.len-in-Ok.ensures, c.saturating_sub.ensures) in
     let P : ℕ → Type 0 = λ n. IsRead tokens at depth c.in-Ok.tree n in
     subst P count right
 
