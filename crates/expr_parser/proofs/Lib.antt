@@ -2,6 +2,7 @@ mod Turns
 mod Last
 mod Machine
 mod Roles
+mod Words
 mod Complete
 mod Took
 mod Spot

@@ -2,17 +2,10 @@
 use Rattle.std.specs.Prelude.{ℕ, Bool, true, false, not, ◌&&◌, if◌then◌else◌, List, [], ◌∷◌, codes}
 use Rattle.std.specs.List.{list_any}
 use Rattle.std.specs.Str.{bytes_eq}
+use Rattle.sv_base.specs.Spelling.{refused_words, is_reserved}
 use Rattle.sv_lexer.specs.declared.token.TokenKind.{TokenKind}
 use Rattle.sv_lexer.specs.declared.token.TokenKind.TheVariants as kind
 use Rattle.sv_lexer.specs.declared.token.Token.{Token}
-
--- the words that the language uses (IEEE 1800-2017, annex B)
-abbrev pub used_words : List (List ℕ)
-used_words = codes "module" ∷ codes "endmodule" ∷ codes "input" ∷ codes "output" ∷ codes "wire" ∷ codes "logic" ∷ codes "reg" ∷ codes "bit" ∷ codes "int" ∷ codes "integer" ∷ codes "signed" ∷ codes "unsigned" ∷ codes "parameter" ∷ codes "localparam" ∷ codes "genvar" ∷ codes "generate" ∷ codes "endgenerate" ∷ codes "assign" ∷ codes "always" ∷ codes "always_comb" ∷ codes "always_ff" ∷ codes "posedge" ∷ codes "negedge" ∷ codes "begin" ∷ codes "end" ∷ codes "if" ∷ codes "else" ∷ codes "case" ∷ codes "endcase" ∷ codes "default" ∷ codes "for" ∷ []
-
--- the words of the standard outside the subset
-abbrev pub refused_words : List (List ℕ)
-refused_words = codes "inout" ∷ codes "tri" ∷ codes "tri0" ∷ codes "tri1" ∷ codes "triand" ∷ codes "trior" ∷ codes "trireg" ∷ codes "wand" ∷ codes "wor" ∷ codes "supply0" ∷ codes "supply1" ∷ codes "uwire" ∷ codes "initial" ∷ codes "final" ∷ codes "task" ∷ codes "endtask" ∷ codes "function" ∷ codes "endfunction" ∷ codes "class" ∷ codes "endclass" ∷ codes "package" ∷ codes "endpackage" ∷ codes "import" ∷ codes "export" ∷ codes "interface" ∷ codes "endinterface" ∷ codes "modport" ∷ codes "program" ∷ codes "endprogram" ∷ codes "struct" ∷ codes "union" ∷ codes "enum" ∷ codes "typedef" ∷ codes "packed" ∷ codes "casez" ∷ codes "casex" ∷ codes "unique" ∷ codes "unique0" ∷ codes "priority" ∷ codes "while" ∷ codes "repeat" ∷ codes "do" ∷ codes "forever" ∷ codes "break" ∷ codes "continue" ∷ codes "return" ∷ codes "always_latch" ∷ codes "defparam" ∷ codes "specify" ∷ codes "endspecify" ∷ codes "primitive" ∷ codes "endprimitive" ∷ codes "force" ∷ codes "release" ∷ codes "deassign" ∷ codes "real" ∷ codes "shortreal" ∷ codes "realtime" ∷ codes "time" ∷ codes "string" ∷ codes "event" ∷ codes "chandle" ∷ codes "byte" ∷ codes "shortint" ∷ codes "longint" ∷ codes "var" ∷ codes "automatic" ∷ codes "static" ∷ codes "const" ∷ codes "void" ∷ codes "or" ∷ codes "iff" ∷ codes "inside" ∷ codes "assert" ∷ codes "assume" ∷ codes "cover" ∷ codes "property" ∷ codes "sequence" ∷ codes "bind" ∷ codes "fork" ∷ codes "join" ∷ codes "wait" ∷ codes "disable" ∷ []
 
 -- the system functions of the subset (20.5, 20.8.1)
 abbrev pub system_names : List (List ℕ)
@@ -98,7 +91,7 @@ is_fill kind.Mark = false
 
 -- an identifier: a word that the language neither uses nor refuses (5.6)
 unfoldable pub is_identifier : Token → Bool
-is_identifier token = is_word token.kind && (not (is_among used_words token.text) && not (is_among refused_words token.text))
+is_identifier token = is_word token.kind && not (is_reserved token.text)
 
 -- a system function of the subset
 unfoldable pub is_function : Token → Bool

@@ -3,10 +3,13 @@
 ghost use Rattle.std.specs.Prelude.{◌≡◌, ◌≤◌};
 ghost use Rattle.std.specs.List.{list_any};
 ghost use Rattle.std.specs.Str.{bytes_eq};
+ghost use Rattle.sv_base.specs.Spelling.{used_words, refused_words};
 ghost use Rattle.expr_parser.specs.Spelling as spec;
 
+use sv_base::spelling;
 use sv_lexer::{Token, TokenKind};
 
+/// The words that the language uses; every other reserved word is refused.
 const USED_WORDS: [&str; 31] = [
     "module",
     "endmodule",
@@ -41,92 +44,6 @@ const USED_WORDS: [&str; 31] = [
     "for",
 ];
 
-const REFUSED_WORDS: [&str; 83] = [
-    "inout",
-    "tri",
-    "tri0",
-    "tri1",
-    "triand",
-    "trior",
-    "trireg",
-    "wand",
-    "wor",
-    "supply0",
-    "supply1",
-    "uwire",
-    "initial",
-    "final",
-    "task",
-    "endtask",
-    "function",
-    "endfunction",
-    "class",
-    "endclass",
-    "package",
-    "endpackage",
-    "import",
-    "export",
-    "interface",
-    "endinterface",
-    "modport",
-    "program",
-    "endprogram",
-    "struct",
-    "union",
-    "enum",
-    "typedef",
-    "packed",
-    "casez",
-    "casex",
-    "unique",
-    "unique0",
-    "priority",
-    "while",
-    "repeat",
-    "do",
-    "forever",
-    "break",
-    "continue",
-    "return",
-    "always_latch",
-    "defparam",
-    "specify",
-    "endspecify",
-    "primitive",
-    "endprimitive",
-    "force",
-    "release",
-    "deassign",
-    "real",
-    "shortreal",
-    "realtime",
-    "time",
-    "string",
-    "event",
-    "chandle",
-    "byte",
-    "shortint",
-    "longint",
-    "var",
-    "automatic",
-    "static",
-    "const",
-    "void",
-    "or",
-    "iff",
-    "inside",
-    "assert",
-    "assume",
-    "cover",
-    "property",
-    "sequence",
-    "bind",
-    "fork",
-    "join",
-    "wait",
-    "disable",
-];
-
 fn is_among(texts: &[&str], text: &[u8]) -> bool
     ensures { result ≡ list_any (λ t. bytes_eq text.now t.now) texts.now }
 {
@@ -134,15 +51,15 @@ fn is_among(texts: &[&str], text: &[u8]) -> bool
 }
 
 fn is_used_word(text: &[u8]) -> bool
-    ensures { result ≡ spec.is_among spec.used_words text.now }
+    ensures { result ≡ spec.is_among used_words text.now }
 {
     is_among(&USED_WORDS, text)
 }
 
 fn is_refused_word(text: &[u8]) -> bool
-    ensures { result ≡ spec.is_among spec.refused_words text.now }
+    ensures { result ≡ spec.is_among refused_words text.now }
 {
-    is_among(&REFUSED_WORDS, text)
+    spelling::is_reserved(text) && !is_used_word(text)
 }
 
 fn is_system_name(text: &[u8]) -> bool
@@ -229,7 +146,7 @@ pub fn is_identifier(token: &Token) -> bool
     ensures { result ≡ spec.is_identifier token.now }
 {
     let text = token.text.bytes();
-    matches!(token.kind, TokenKind::Word) && !is_used_word(text) && !is_refused_word(text)
+    matches!(token.kind, TokenKind::Word) && !spelling::is_reserved(text)
 }
 
 /// Whether the token names a system function of the subset.
