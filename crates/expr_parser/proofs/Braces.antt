@@ -1,26 +1,25 @@
 -- What reading gives for concatenations and replications.
-use Rattle.std.proofs.Common.{◌≡◌, ◌∙◌, ◌⊎◌, inl, inr, ℕ, zero, suc, ◌+◌, ◌-◌, ◌<◌, ◌≤◌, ◌==◌, Bool, true, false, nat_le, List, [], ◌∷◌, ◌++◌, length, Option, Some, None, Result, Ok, Err, refl, sym, ap, subst, arith, codes, append_assoc, append-nil, length-append, if◌then◌else◌}
-use Rattle.std.proofs.lemmas.Bool.{le-leb, lt-leb}
+use Rattle.std.proofs.Common.{◌≡◌, ◌∙◌, inl, inr, ℕ, suc, ◌+◌, ◌-◌, ◌≤◌, Bool, true, false, List, [], ◌∷◌, ◌++◌, length, Ok, refl, sym, ap, subst, arith, codes, append_assoc, length-append, if◌then◌else◌}
 use Rattle.sv_lexer.specs.declared.token.Token.{Token}
 use Rattle.sv_ast.specs.declared.expression.Expr.{Expr}
 use Rattle.sv_ast.specs.declared.expression.Expr.TheVariants as e
-use Rattle.expr_parser.specs.Spelling.{is_this, binds}
-use Rattle.expr_parser.specs.Grammar.{Phrase, number, concat, repeat, Phrases, only, more, tokens_of, all_tokens_of, tree_of, trees_of, id_of, Is, IsPhrase, ArePhrases, strength}
+use Rattle.expr_parser.specs.Spelling.{is_this}
+use Rattle.expr_parser.specs.Grammar.{Phrase, concat, tokens_of, all_tokens_of, tree_of, Is, IsPhrase, strength}
 use Rattle.expr_parser.specs.Nesting.{nesting, nestings, operators, in_brackets, greatest_nesting}
-use Rattle.expr_parser.specs.Input.{Input, Outcome, Parser, past_marks, front_of, after, turns, sees, and_then, rise, take_id, refusal, refuse, expect}
+use Rattle.expr_parser.specs.Input.{Input, Parser, turns, sees, and_then, refusal}
 use Rattle.expr_parser.specs.Reading.{opening, whole, list_from, repeated, braced_from, braced}
 use Rattle.expr_parser.specs.Reading as reading
-use Rattle.expr_parser.proofs.Machine.{Frame, in_braces, in_parts, State, wants, wants_brace, has, failed, reduce, closed, opened_parts, begun, step, steps, operand_of}
-use Rattle.expr_parser.proofs.Took.{Took, Took-none, Took-then}
-use Rattle.expr_parser.proofs.Roles.{not_this, start_of-brace}
-use Rattle.expr_parser.proofs.Complete.{steps-append, reads_phrase, reads_list, in-brackets, list-end, end-brace, end-open_brace, braces-frame, parts-frame, has-concat, has-repeat, same_ends}
-use Rattle.expr_parser.proofs.Spot.{Fits, IsFinal, Judged, judged_then, Spot, Inner, inside, cases_le}
-use Rattle.expr_parser.proofs.Part.{Next, spare, deep_at, stuck_at, spot-small, judged_expect, sees-yes, sees-no, Took-after, after-last, after-nested}
-use Rattle.expr_parser.proofs.Inners.{nesting-zero, nestings-zero, in_brackets-at, one_shallow, two_shallow, between_parts}
-use Rattle.expr_parser.proofs.Operators.{IsReader, IsOperand}
-use Rattle.expr_parser.proofs.Levels.{IsWhole, judged_whole}
-use Rattle.expr_parser.proofs.Primaries.{sign_token, select_fails, primary_at, brackets_shallow, brackets_shallow_to, one_shallow_none, no_operand, opened, whole_took, whole_last, whole_nested, whole_stuck}
-use Rattle.expr_parser.proofs.Lists.{ListPlace, ListPart, IsList, first_inner, list_only, judged_list}
+use Rattle.expr_parser.proofs.Machine.{Frame, in_braces, wants, has, failed, reduce, closed, begun, step, steps, operand_of}
+use Rattle.expr_parser.proofs.Took.{Took, Took-then}
+use Rattle.expr_parser.proofs.Roles.{start_of-brace}
+use Rattle.expr_parser.proofs.Complete.{steps-append, reads_list, braces-frame, has-concat, same_ends}
+use Rattle.expr_parser.proofs.Spot.{IsFinal, Judged, judged_then, Spot, cases_le}
+use Rattle.expr_parser.proofs.Part.{Next, stuck_at, spot-small, sees-no}
+use Rattle.expr_parser.proofs.Inners.{nestings-zero, in_brackets-at, one_shallow}
+use Rattle.expr_parser.proofs.Operators.{IsReader}
+use Rattle.expr_parser.proofs.Levels.{IsWhole}
+use Rattle.expr_parser.proofs.Primaries.{sign_token, brackets_shallow}
+use Rattle.expr_parser.proofs.Lists.{ListPlace, ListPart, IsList, list_only, judged_list}
 
 pub close_brace_is : Is (codes "}") (sign_token (codes "}"))
 unfolding is_this

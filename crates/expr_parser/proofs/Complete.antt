@@ -1,14 +1,13 @@
 -- The machine reads each phrase of the grammar, whatever stands around it.
-use Rattle.std.proofs.Common.{◌≡◌, ◌∙◌, ◌⊎◌, ℕ, zero, suc, ◌+◌, ◌<◌, ◌≤◌, ◌==◌, Bool, true, false, nat_le, List, [], ◌∷◌, ◌++◌, Option, Some, None, refl, sym, ap, subst, arith, codes, if◌then◌else◌, append_assoc}
+use Rattle.std.proofs.Common.{◌≡◌, ◌∙◌, ℕ, ◌<◌, ◌≤◌, Bool, true, false, List, [], ◌∷◌, ◌++◌, Some, None, refl, sym, ap, arith, codes, if◌then◌else◌, append_assoc}
 use Rattle.std.proofs.lemmas.Bool.{le-leb, lt-leb, ne_eqb, eq-eqb, lt-ltb}
 use Rattle.std.specs.Str.{bytes_eq}
 use Rattle.sv_lexer.specs.declared.token.Token.{Token}
-use Rattle.sv_ast.specs.declared.expression.Sel.TheVariants as sel
 use Rattle.sv_ast.specs.declared.expression.Expr.{Expr}
 use Rattle.sv_ast.specs.declared.expression.Expr.TheVariants as e
 use Rattle.expr_parser.specs.Spelling.{is_identifier, is_this, precedence, binds}
-use Rattle.expr_parser.specs.Grammar.{Between, down_to, up_from, down_from, Phrase, number, fill, name, selected, ranged, group, concat, repeat, call, unary, binary, choice, Phrases, only, more, tokens_of, all_tokens_of, tree_of, trees_of, id_of, range_of, strength, Is, between_text, IsPhrase, ArePhrases, Reads}
-use Rattle.expr_parser.proofs.Machine.{Frame, under_sign, behind_left, in_first, in_second, in_group, in_call, in_select, in_range, in_braces, in_parts, State, wants, wants_argument, has_name, has, wants_brace, failed, reduce, closed, went_on, begun, step, steps, operand_of, start_of}
+use Rattle.expr_parser.specs.Grammar.{Between, down_to, up_from, down_from, Phrase, number, fill, name, selected, ranged, group, concat, repeat, call, unary, binary, choice, Phrases, only, more, tokens_of, all_tokens_of, tree_of, trees_of, id_of, strength, Is, between_text, IsPhrase, ArePhrases, Reads}
+use Rattle.expr_parser.proofs.Machine.{Frame, under_sign, behind_left, in_first, in_second, in_group, in_call, in_select, in_range, in_braces, in_parts, State, wants, wants_argument, has_name, has, wants_brace, failed, reduce, closed, went_on, begun, step, steps, operand_of}
 use Rattle.expr_parser.proofs.Roles.{not_this, binds-this, binds-not_this, start_of-name, start_of-function, start_of-sign, start_of-number, start_of-fill, start_of-group, start_of-brace, binds-small}
 
 -- ---- many steps
@@ -37,7 +36,7 @@ Holds (in_range w id o a ∷ fs) s = Unit {0}
 Holds (in_braces o ys ∷ fs) s = Unit {0}
 Holds (in_parts o n ys ∷ fs) s = Unit {0}
 
-Holds-more : (fs : List Frame) (s r : ℕ) → s ≤ r → Holds fs s → Holds fs r
+pub Holds-more : (fs : List Frame) (s r : ℕ) → s ≤ r → Holds fs s → Holds fs r
 Holds-more [] s r le h = tt
 Holds-more (under_sign u ∷ fs) s r le h = omega arith
 Holds-more (behind_left l u ∷ fs) s r le h = omega arith

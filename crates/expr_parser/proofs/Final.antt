@@ -1,5 +1,5 @@
 -- What reading gives is what the definitions say.
-use Rattle.std.proofs.Common.{◌≡◌, ◌≢◌, ◌∙◌, ◌⊎◌, inl, inr, ℕ, zero, suc, ◌+◌, ◌-◌, ◌<◌, ◌≤◌, Bool, true, false, List, [], ◌∷◌, ◌++◌, length, take, drop, Option, Some, None, Result, Ok, Err, refl, sym, ap, subst, arith, codes, append_assoc, append-nil, length-append, length-drop}
+use Rattle.std.proofs.Common.{◌≡◌, ◌≢◌, ◌∙◌, inl, inr, ℕ, ◌+◌, ◌-◌, ◌≤◌, Bool, true, false, List, [], ◌∷◌, ◌++◌, length, take, drop, Some, Ok, Err, refl, sym, ap, subst, arith, codes, append_assoc, append-nil, length-append, length-drop}
 use Rattle.std.proofs.lemmas.List.{take_rest}
 use Rattle.sv_lexer.specs.declared.token.Token.{Token}
 use Rattle.sv_base.specs.declared.refusal.Refusal.{Refusal}
@@ -8,16 +8,16 @@ use Rattle.sv_ast.specs.declared.expression.Expr.{Expr}
 use Rattle.expr_parser.specs.declared.fault.ParseFault.{ParseFault}
 use Rattle.expr_parser.specs.declared.fault.ParseFault.TheVariants.{Refused, NoMemory}
 use Rattle.expr_parser.specs.Spelling.{is_this, binds}
-use Rattle.expr_parser.specs.Grammar.{Phrase, tokens_of, tree_of, IsPhrase, strength, Reads}
+use Rattle.expr_parser.specs.Grammar.{Phrase, tokens_of, tree_of, IsPhrase, strength}
 use Rattle.expr_parser.specs.Nesting.{nesting, greatest_nesting}
-use Rattle.expr_parser.specs.Outcome.{grammar_tokens, BeginsWith, Begins, NoneGoesOn, IsShallow, IsRead, IsStuck, IsTooDeep, IsRefused, IsFaultOf, last_place, refusal_at}
+use Rattle.expr_parser.specs.Outcome.{grammar_tokens, NoneGoesOn, IsRead, IsStuck, IsTooDeep, IsFaultOf, last_place}
 use Rattle.expr_parser.specs.Input.{Input, Outcome, past_marks, front_of, behind}
 use Rattle.expr_parser.specs.Reading.{any}
-use Rattle.expr_parser.proofs.Machine.{Frame, wants, failed, reduce, closed, step, steps, operand_of}
-use Rattle.expr_parser.proofs.Took.{Took, grammar_tokens-front, grammar_tokens-append, refusal_at-front, marked_front}
-use Rattle.expr_parser.proofs.Complete.{steps-append, none_begins, ends_with, step-end, Ended}
+use Rattle.expr_parser.proofs.Machine.{wants, failed, step, steps, operand_of}
+use Rattle.expr_parser.proofs.Took.{grammar_tokens-front, grammar_tokens-append, refusal_at-front, marked_front}
+use Rattle.expr_parser.proofs.Complete.{steps-append, none_begins, ends_with, step-end}
 use Rattle.expr_parser.proofs.Spot.{IsFinal, Judged, Stuck, Deep}
-use Rattle.expr_parser.proofs.Part.{Next, Good}
+use Rattle.expr_parser.proofs.Part.{Next}
 use Rattle.expr_parser.proofs.Levels.{PrimaryIs, IsWhole, judged_any}
 
 -- what is read from this place on, at this open nesting

@@ -1,10 +1,10 @@
 -- The places of operands inside a phrase with operators.
-use Rattle.std.proofs.Common.{◌≡◌, ◌∙◌, ◌⊎◌, inl, inr, ℕ, zero, suc, ◌+◌, ◌-◌, ◌<◌, ◌≤◌, ◌==◌, Bool, true, false, nat_le, List, [], ◌∷◌, ◌++◌, length, Some, refl, sym, ap, subst, arith, codes, append_assoc, append-nil, length-append, if◌then◌else◌}
+use Rattle.std.proofs.Common.{◌≡◌, ◌∙◌, inl, inr, ℕ, ◌+◌, ◌-◌, ◌<◌, ◌≤◌, ◌==◌, Bool, true, false, nat_le, List, [], ◌∷◌, ◌++◌, length, refl, sym, ap, subst, arith, codes, append_assoc, append-nil, length-append, if◌then◌else◌}
 use Rattle.std.proofs.lemmas.Bool.{le-leb, lt-leb, ne_eqb}
 use Rattle.sv_lexer.specs.declared.token.Token.{Token}
 use Rattle.sv_ast.specs.declared.expression.Expr.{Expr}
-use Rattle.expr_parser.specs.Spelling.{is_this, is_unary, binds}
-use Rattle.expr_parser.specs.Grammar.{Phrase, number, fill, name, selected, ranged, group, concat, repeat, call, unary, binary, choice, Phrases, only, more, tokens_of, all_tokens_of, tree_of, Is, IsPhrase, strength}
+use Rattle.expr_parser.specs.Spelling.{is_unary, binds}
+use Rattle.expr_parser.specs.Grammar.{Phrase, number, fill, name, selected, ranged, group, concat, repeat, call, unary, binary, choice, Phrases, only, more, tokens_of, tree_of, Is, strength}
 use Rattle.expr_parser.specs.Nesting.{nesting, nestings, operators, operands, one_after, in_brackets, greatest_nesting}
 use Rattle.expr_parser.specs.Input.{Input}
 use Rattle.expr_parser.proofs.Machine.{Frame, under_sign, behind_left, in_first, in_second, wants, begun, step, steps}

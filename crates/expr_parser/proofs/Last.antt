@@ -1,5 +1,5 @@
 -- The last token of a list.
-use Rattle.std.proofs.Common.{◌≡◌, ◌∙◌, ℕ, suc, ◌-◌, ◌≤◌, List, [], ◌∷◌, length, slice_index_or, refl, sym, ap, arith}
+use Rattle.std.proofs.Common.{◌≡◌, ◌∙◌, suc, ◌-◌, ◌≤◌, List, [], ◌∷◌, length, slice_index_or, refl, ap, arith}
 use Rattle.sv_lexer.specs.declared.token.Token.{Token}
 use Rattle.expr_parser.specs.Outcome.{last_place}
 

@@ -1,19 +1,19 @@
 -- What reading gives for expressions, from what it gives for operands without signs.
-use Rattle.std.proofs.Common.{◌≡◌, ◌∙◌, ◌⊎◌, inl, inr, ℕ, zero, suc, ◌+◌, ◌-◌, ◌<◌, ◌≤◌, ◌==◌, Bool, true, false, List, [], ◌∷◌, ◌++◌, length, Option, Some, None, Result, Ok, Err, refl, sym, ap, subst, arith, codes, append_assoc, append-nil, length-append, if◌then◌else◌}
+use Rattle.std.proofs.Common.{◌≡◌, ◌∙◌, ℕ, zero, suc, ◌+◌, ◌≤◌, ◌==◌, Bool, true, false, List, [], Option, Some, None, Ok, refl, sym, ap, subst, arith, codes, append-nil, if◌then◌else◌}
 use Rattle.std.proofs.lemmas.Bool.{eqb-true, eqb-false}
 use Rattle.sv_lexer.specs.declared.token.Token.{Token}
 use Rattle.sv_ast.specs.declared.expression.Expr.{Expr}
-use Rattle.expr_parser.specs.Spelling.{is_this, is_unary, binds}
-use Rattle.expr_parser.specs.Grammar.{Phrase, number, tokens_of, strength}
-use Rattle.expr_parser.specs.Nesting.{nesting, operators, greatest_nesting}
-use Rattle.expr_parser.specs.Input.{Input, Outcome, Parser, past_marks, front_of, next, ahead, sees, and_then}
+use Rattle.expr_parser.specs.Spelling.{is_unary}
+use Rattle.expr_parser.specs.Grammar.{tokens_of}
+use Rattle.expr_parser.specs.Nesting.{nesting, greatest_nesting}
+use Rattle.expr_parser.specs.Input.{Input, Parser, past_marks, front_of, next, ahead, sees}
 use Rattle.expr_parser.specs.Reading.{prefixed, chosen, level, operand, operations, primary, expr, whole, is_unary_next}
 use Rattle.expr_parser.proofs.Machine.{Frame}
 use Rattle.expr_parser.proofs.Took.{Took-none}
-use Rattle.expr_parser.proofs.Spot.{Fits, IsFinal, Judged, judged_then, Spot}
-use Rattle.expr_parser.proofs.Part.{Next, Part, Good, spare, spot-small, sees-yes, sees-no}
+use Rattle.expr_parser.proofs.Spot.{Judged, judged_then, Spot}
+use Rattle.expr_parser.proofs.Part.{Next, Good, spot-small, sees-yes, sees-no}
 use Rattle.expr_parser.proofs.Inners.{nesting-zero}
-use Rattle.expr_parser.proofs.Operators.{IsReader, IsOperand, IsTighter, IsClimbed, judged_prefixed, judged_operations, judged_chosen}
+use Rattle.expr_parser.proofs.Operators.{IsReader, IsOperand, IsClimbed, judged_prefixed, judged_operations, judged_chosen}
 
 -- no sign that may stand before an operand comes next
 abbrev pub NoSign : Input → Type 0

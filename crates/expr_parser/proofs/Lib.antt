@@ -17,3 +17,7 @@ mod Lists
 mod Braces
 mod Repeats
 mod Whole
+mod Written
+mod Counts
+mod Depths
+mod Unique

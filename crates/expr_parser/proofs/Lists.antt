@@ -1,21 +1,21 @@
 -- What reading gives for lists of expressions in braces.
-use Rattle.std.proofs.Common.{◌≡◌, ◌∙◌, ◌⊎◌, inl, inr, ℕ, zero, suc, ◌+◌, ◌-◌, ◌<◌, ◌≤◌, ◌==◌, Bool, true, false, nat_le, List, [], ◌∷◌, ◌++◌, length, Option, Some, None, Result, Ok, Err, refl, sym, ap, subst, arith, codes, append_assoc, append-nil, length-append, if◌then◌else◌}
+use Rattle.std.proofs.Common.{◌≡◌, ◌∙◌, inl, inr, ℕ, zero, suc, ◌+◌, ◌-◌, ◌≤◌, Bool, true, false, List, [], ◌∷◌, ◌++◌, length, Ok, refl, sym, ap, subst, arith, codes, append_assoc, length-append, if◌then◌else◌}
 use Rattle.sv_lexer.specs.declared.token.Token.{Token}
 use Rattle.sv_ast.specs.declared.expression.Expr.{Expr}
-use Rattle.expr_parser.specs.Spelling.{is_this, binds}
-use Rattle.expr_parser.specs.Grammar.{Phrase, number, Phrases, only, more, tokens_of, all_tokens_of, tree_of, trees_of, Is, IsPhrase, ArePhrases, strength}
-use Rattle.expr_parser.specs.Nesting.{nesting, nestings, one_after, greatest_nesting}
-use Rattle.expr_parser.specs.Input.{Input, Outcome, Parser, past_marks, front_of, after, turns, sees, and_then, refusal, refuse, expect}
+use Rattle.expr_parser.specs.Spelling.{is_this}
+use Rattle.expr_parser.specs.Grammar.{Phrase, Phrases, only, more, tokens_of, all_tokens_of, tree_of, trees_of, Is, IsPhrase, ArePhrases, strength}
+use Rattle.expr_parser.specs.Nesting.{nesting, nestings, greatest_nesting}
+use Rattle.expr_parser.specs.Input.{Input, Parser, after, sees, and_then}
 use Rattle.expr_parser.specs.Reading.{whole, list_from}
-use Rattle.expr_parser.proofs.Machine.{Frame, State, wants, failed, reduce, closed, step, steps, operand_of}
+use Rattle.expr_parser.proofs.Machine.{Frame, wants, failed, closed, step, steps}
 use Rattle.expr_parser.proofs.Took.{Took, Took-then, Took-shorter}
-use Rattle.expr_parser.proofs.Complete.{steps-append, reads_list, list-end, end-comma, IsListFrame, ListEnded, same_ends}
-use Rattle.expr_parser.proofs.Spot.{Fits, IsFinal, Judged, judged_then, Spot, Inner, inside, cases_le}
-use Rattle.expr_parser.proofs.Part.{Next, Part, Good, stuck_at, sees-yes, sees-no, Took-after, after-last, after-nested}
+use Rattle.expr_parser.proofs.Complete.{steps-append, reads_list, list-end, end-comma, IsListFrame}
+use Rattle.expr_parser.proofs.Spot.{Fits, Judged, judged_then, Spot, Inner, inside, cases_le}
+use Rattle.expr_parser.proofs.Part.{Next, sees-yes, sees-no, Took-after, after-last, after-nested}
 use Rattle.expr_parser.proofs.Inners.{nesting-zero, one_after-first, one_after-second}
-use Rattle.expr_parser.proofs.Operators.{IsReader, whole_fails, whole_unfinished}
+use Rattle.expr_parser.proofs.Operators.{IsReader, whole_fails}
 use Rattle.expr_parser.proofs.Levels.{IsWhole, judged_whole}
-use Rattle.expr_parser.proofs.Primaries.{whole_took, whole_next, whole_last, whole_nested, range_shallow}
+use Rattle.expr_parser.proofs.Primaries.{whole_took, whole_next, whole_last, whole_nested}
 
 -- ---- one expression more at the end of a list
 

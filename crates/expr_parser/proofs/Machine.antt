@@ -1,14 +1,13 @@
 -- An expression read one token after the other, with a stack of what is not finished. This is a device of the proofs:
 -- what it makes of a run depends on the run alone, so it says which tokens go on with a run.
-use Rattle.std.proofs.Common.{◌≡◌, ℕ, ◌<◌, ◌≤◌, ◌==◌, Bool, true, false, nat_le, nat_lt, List, [], ◌∷◌, ◌++◌, Option, Some, None, codes, if◌then◌else◌}
-use Rattle.std.specs.Str.{bytes_eq}
+use Rattle.std.proofs.Common.{ℕ, ◌==◌, nat_le, nat_lt, List, [], ◌∷◌, ◌++◌, Option, Some, None, codes, if◌then◌else◌}
 use Rattle.sv_lexer.specs.declared.token.TokenKind.{TokenKind}
 use Rattle.sv_lexer.specs.declared.token.TokenKind.TheVariants as kind
 use Rattle.sv_lexer.specs.declared.token.Token.{Token}
 use Rattle.sv_ast.specs.declared.expression.Sel.TheVariants as sel
 use Rattle.sv_ast.specs.declared.expression.Expr.{Expr}
 use Rattle.sv_ast.specs.declared.expression.Expr.TheVariants as e
-use Rattle.expr_parser.specs.Spelling.{is_identifier, is_function, is_unary, is_this, is_sign, precedence, binds}
+use Rattle.expr_parser.specs.Spelling.{is_identifier, is_function, is_unary, is_this, binds}
 use Rattle.expr_parser.specs.Grammar.{Between, down_to, up_from, down_from, id_of, range_of}
 
 -- what is not finished: a sign before an operand, a left operand with its sign, a condition with its `?`, these with the

@@ -1,26 +1,22 @@
 -- What reading gives where operators stand.
-use Rattle.std.proofs.Common.{◌≡◌, ◌∙◌, ◌⊎◌, inl, inr, ℕ, zero, suc, ◌+◌, ◌-◌, ◌<◌, ◌≤◌, ◌==◌, Bool, true, false, nat_le, List, [], ◌∷◌, ◌++◌, length, Option, Some, None, Result, Ok, Err, refl, sym, ap, subst, arith, codes, append_assoc, append-nil, length-append, if◌then◌else◌}
+use Rattle.std.proofs.Common.{◌≡◌, ◌∙◌, ◌⊎◌, inl, inr, ℕ, zero, suc, ◌+◌, ◌-◌, ◌<◌, ◌≤◌, Bool, true, false, List, [], ◌∷◌, ◌++◌, length, Option, Some, None, Ok, refl, sym, ap, subst, arith, codes, append_assoc, append-nil, length-append, if◌then◌else◌}
 use Rattle.std.proofs.lemmas.Bool.Decides.{leb_tells}
 use Rattle.sv_lexer.specs.declared.token.Token.{Token}
 use Rattle.sv_lexer.specs.declared.token.TokenKind.TheVariants as kind
-use Rattle.sv_base.specs.declared.refusal.Refusal.{Refusal}
-use Rattle.sv_ast.specs.declared.expression.Id.{Id}
 use Rattle.sv_ast.specs.declared.expression.Expr.{Expr}
 use Rattle.sv_ast.specs.declared.expression.Expr.TheVariants as e
-use Rattle.expr_parser.specs.declared.fault.ParseFault.TheVariants.{Refused}
 use Rattle.expr_parser.specs.Spelling.{is_this, is_unary, binds}
 use Rattle.expr_parser.specs.Grammar.{Phrase, number, unary, binary, choice, tokens_of, tree_of, id_of, Is, IsPhrase, strength}
 use Rattle.expr_parser.specs.Nesting.{nesting, operators, operands, greatest_nesting}
-use Rattle.expr_parser.specs.Outcome.{nesting_refusal}
-use Rattle.expr_parser.specs.Input.{Input, Outcome, Parser, past_marks, front_of, after, next, ahead, turns, sees, and_then, rise, take_id, refusal, expect}
-use Rattle.expr_parser.specs.Reading.{prefixed, operation, climb, operations, chosen, level, operand, primary, binds_next, is_unary_next}
+use Rattle.expr_parser.specs.Input.{Input, Parser, past_marks, front_of, after, next, ahead, turns, and_then, expect}
+use Rattle.expr_parser.specs.Reading.{prefixed, operation, climb, operations, chosen, binds_next}
 use Rattle.expr_parser.proofs.Machine.{Frame, under_sign, behind_left, in_first, in_second, wants, failed, reduce, closed, step, steps, operand_of}
 use Rattle.expr_parser.proofs.Took.{Took, Took-none, Took-then, Took-shorter}
 use Rattle.expr_parser.proofs.Roles.{binds-small}
-use Rattle.expr_parser.proofs.Complete.{Holds, steps-append, reads_phrase, in-brackets, end-colon, IsEnd, Ended, same_ends}
-use Rattle.expr_parser.proofs.Spot.{Fits, IsFinal, Judged, judged_then, Spot, Inner, inside, cases_le}
-use Rattle.expr_parser.proofs.Part.{Next, Part, Good, spare, deep_at, stuck_at, risen, spot-small, judged_expect, sees-yes, sees-no, Took-after, after-last, after-nested}
-use Rattle.expr_parser.proofs.Inners.{nesting-zero, unary-at, operands-first, operands-second, inner-unary, inner-binary, inner-first, inner-second}
+use Rattle.expr_parser.proofs.Complete.{Holds, steps-append, reads_phrase, in-brackets, end-colon, same_ends}
+use Rattle.expr_parser.proofs.Spot.{Fits, Judged, judged_then, Spot, Inner, inside, cases_le}
+use Rattle.expr_parser.proofs.Part.{Next, Part, Good, spare, deep_at, stuck_at, risen, spot-small, judged_expect, Took-after, after-last, after-nested}
+use Rattle.expr_parser.proofs.Inners.{unary-at, operands-first, operands-second, inner-unary, inner-binary, inner-first, inner-second}
 
 -- a reader of expressions, for a nesting to which the depth is enough
 abbrev pub IsReader : Input → (ℕ → Parser Expr) → ℕ → Type 0

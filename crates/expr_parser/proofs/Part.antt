@@ -1,5 +1,5 @@
 -- What was read from a place on, and how a reading ends there.
-use Rattle.std.proofs.Common.{◌≡◌, ◌∙◌, ◌⊎◌, inl, inr, ℕ, zero, suc, ◌+◌, ◌-◌, ◌<◌, ◌≤◌, Bool, true, false, nat_lt, List, [], ◌∷◌, ◌++◌, length, Option, Some, None, Result, Ok, Err, refl, sym, ap, subst, arith, codes, append_assoc, append-nil, length-append, if◌then◌else◌}
+use Rattle.std.proofs.Common.{◌≡◌, ◌∙◌, ◌⊎◌, inl, inr, ℕ, suc, ◌+◌, ◌-◌, ◌<◌, ◌≤◌, Bool, true, false, List, [], ◌∷◌, ◌++◌, length, Option, Some, None, Ok, Err, refl, sym, ap, subst, arith, codes, append_assoc, length-append, if◌then◌else◌}
 use Rattle.std.proofs.lemmas.Bool.Decides.{leb_tells}
 use Rattle.sv_lexer.specs.declared.token.Token.{Token}
 use Rattle.sv_lexer.specs.declared.token.TokenKind.TheVariants as kind
@@ -7,18 +7,16 @@ use Rattle.sv_base.specs.declared.refusal.Place.{Place}
 use Rattle.sv_base.specs.declared.refusal.Refusal.{Refusal}
 use Rattle.sv_ast.specs.declared.expression.Id.{Id}
 use Rattle.sv_ast.specs.declared.expression.Expr.{Expr}
-use Rattle.expr_parser.specs.declared.fault.ParseFault.{ParseFault}
-use Rattle.expr_parser.specs.declared.fault.ParseFault.TheVariants.{Refused, NoMemory}
+use Rattle.expr_parser.specs.declared.fault.ParseFault.TheVariants.{Refused}
 use Rattle.expr_parser.specs.Spelling.{is_this, binds}
 use Rattle.expr_parser.specs.Grammar.{Phrase, number, tokens_of, tree_of, id_of, IsPhrase, strength}
 use Rattle.expr_parser.specs.Nesting.{nesting, operators, greatest_nesting}
-use Rattle.expr_parser.specs.Outcome.{refusal_at, nesting_refusal, BeginsWith, IsShallow}
-use Rattle.expr_parser.specs.Input.{Input, Outcome, Parser, past_marks, front_of, behind, ahead, next, after, sees, is_some_this, and_then, refusal, refuse, too_deep, deep_refusal, rise, take_id, expect}
-use Rattle.expr_parser.specs.Reading.{opening}
-use Rattle.expr_parser.proofs.Machine.{Frame, State, wants, failed, reduce, step, steps, operand_of}
-use Rattle.expr_parser.proofs.Took.{Took, Took-none, Took-then, Took-one}
-use Rattle.expr_parser.proofs.Complete.{Holds, steps-append}
-use Rattle.expr_parser.proofs.Spot.{Fits, Stuck, Deep, IsFinal, Judged, judged_then, Spot, in_three, cases_le, before-within}
+use Rattle.expr_parser.specs.Outcome.{refusal_at, nesting_refusal}
+use Rattle.expr_parser.specs.Input.{Input, Outcome, Parser, past_marks, front_of, ahead, next, after, sees, is_some_this, and_then, refusal, refuse, too_deep, deep_refusal, rise, take_id, expect}
+use Rattle.expr_parser.proofs.Machine.{Frame, wants, failed, reduce, step, steps, operand_of}
+use Rattle.expr_parser.proofs.Took.{Took, Took-then, Took-one}
+use Rattle.expr_parser.proofs.Complete.{steps-append}
+use Rattle.expr_parser.proofs.Spot.{Fits, IsFinal, Judged, judged_then, Spot, cases_le}
 
 -- the next token of a list
 abbrev pub Next : List Token → Token → Type 0

@@ -1,30 +1,27 @@
 -- What reading gives for operands without signs.
-use Rattle.std.proofs.Common.{◌≡◌, ◌∙◌, ◌⊎◌, inl, inr, ℕ, zero, suc, ◌+◌, ◌-◌, ◌<◌, ◌≤◌, ◌==◌, Bool, true, false, nat_le, List, [], ◌∷◌, ◌++◌, length, Option, Some, None, Result, Ok, Err, refl, sym, ap, subst, arith, codes, append_assoc, append-nil, length-append, if◌then◌else◌}
-use Rattle.std.proofs.lemmas.Bool.{le-leb, lt-leb, ne_eqb}
+use Rattle.std.proofs.Common.{◌≡◌, ◌∙◌, inl, inr, ℕ, zero, suc, ◌+◌, ◌-◌, ◌<◌, ◌≤◌, ◌==◌, Bool, true, false, nat_le, List, [], ◌∷◌, length, Some, None, Ok, Err, refl, sym, ap, subst, arith, codes, append-nil, if◌then◌else◌}
+use Rattle.std.proofs.lemmas.Bool.{lt-leb, ne_eqb}
 use Rattle.sv_lexer.specs.declared.token.Token.{Token}
 use Rattle.sv_lexer.specs.declared.token.TokenKind.TheVariants as kind
-use Rattle.sv_base.specs.declared.refusal.Place.{Place}
 use Rattle.sv_ast.specs.declared.expression.Id.{Id}
-use Rattle.sv_ast.specs.declared.expression.Sel.{Sel}
-use Rattle.sv_ast.specs.declared.expression.Sel.TheVariants as sel
 use Rattle.sv_ast.specs.declared.expression.Expr.{Expr}
 use Rattle.sv_ast.specs.declared.expression.Expr.TheVariants as e
 use Rattle.expr_parser.specs.declared.fault.ParseFault.TheVariants.{Refused}
 use Rattle.expr_parser.specs.Outcome.{nesting_refusal}
-use Rattle.expr_parser.specs.Spelling.{is_this, is_unary, is_identifier, is_function, is_number, is_fill, precedence, binds}
-use Rattle.expr_parser.specs.Grammar.{Between, down_to, up_from, down_from, Phrase, number, fill, name, selected, ranged, group, concat, repeat, call, Phrases, only, more, tokens_of, all_tokens_of, tree_of, trees_of, id_of, range_of, between_text, Is, IsPhrase, ArePhrases, strength}
-use Rattle.expr_parser.specs.Nesting.{nesting, nestings, operators, in_brackets, one_after, greatest_nesting}
-use Rattle.expr_parser.specs.Input.{Input, Outcome, Parser, past_marks, front_of, after, next, ahead, sees, and_then, rise, take_id, refusal, refuse, expect}
-use Rattle.expr_parser.specs.Reading.{opening, whole, select, select_from, selects, read, parenthesised, system, primary, primary_by}
-use Rattle.expr_parser.proofs.Machine.{Frame, under_sign, behind_left, in_first, in_second, in_group, in_call, in_select, in_range, in_braces, in_parts, State, wants, wants_argument, has_name, has, failed, reduce, closed, went_on, begun, step, steps, operand_of, start_of, start_by, no_start}
+use Rattle.expr_parser.specs.Spelling.{is_this, is_function, precedence, binds}
+use Rattle.expr_parser.specs.Grammar.{Phrase, number, fill, group, call, tokens_of, tree_of, id_of, Is, IsPhrase, strength}
+use Rattle.expr_parser.specs.Nesting.{nesting, operators, in_brackets, one_after, greatest_nesting}
+use Rattle.expr_parser.specs.Input.{Input, Outcome, Parser, after, next, ahead, sees, and_then, rise, take_id, refusal, refuse, expect}
+use Rattle.expr_parser.specs.Reading.{opening, whole, select, parenthesised, system}
+use Rattle.expr_parser.proofs.Machine.{Frame, under_sign, behind_left, in_first, in_second, in_group, in_call, in_select, in_range, in_braces, in_parts, wants, wants_argument, has, failed, reduce, closed, went_on, begun, step, steps, operand_of}
 use Rattle.expr_parser.proofs.Took.{Took, Took-none, Took-then}
-use Rattle.expr_parser.proofs.Roles.{not_this, binds-this, binds-small, start_of-name, start_of-function, start_of-number, start_of-fill, start_of-group}
-use Rattle.expr_parser.proofs.Complete.{Holds, steps-append, reads_phrase, opened-select, between-step, has-group, has-call, has-selected, has-ranged}
-use Rattle.expr_parser.proofs.Spot.{Fits, IsFinal, Judged, judged_then, Spot, Inner, inside, cases_le}
-use Rattle.expr_parser.proofs.Part.{Next, Part, Good, spare, deep_at, stuck_at, risen, spot-small, judged_expect, judged_take, sees-yes, sees-no, Took-after, after-last, after-nested}
-use Rattle.expr_parser.proofs.Inners.{nesting-zero, in_brackets-at, one_after-first, one_after-second, one_shallow, two_shallow}
+use Rattle.expr_parser.proofs.Roles.{not_this, binds-this, binds-small, start_of-function, start_of-number, start_of-fill, start_of-group}
+use Rattle.expr_parser.proofs.Complete.{Holds, reads_phrase, has-group, has-call}
+use Rattle.expr_parser.proofs.Spot.{IsFinal, Judged, judged_then, Spot, Inner, inside, cases_le}
+use Rattle.expr_parser.proofs.Part.{Next, spare, deep_at, stuck_at, risen, spot-small, judged_expect, judged_take, sees-yes, sees-no, Took-after, after-last, after-nested}
+use Rattle.expr_parser.proofs.Inners.{nesting-zero, in_brackets-at, one_after-first, one_after-second, one_shallow}
 use Rattle.expr_parser.proofs.Operators.{IsReader, IsOperand, whole_fails, whole_unfinished}
-use Rattle.expr_parser.proofs.Levels.{PrimaryIs, NoSign, IsWhole, judged_whole}
+use Rattle.expr_parser.proofs.Levels.{IsWhole, judged_whole}
 
 -- ---- signs that stand for any
 

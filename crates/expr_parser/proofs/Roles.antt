@@ -1,5 +1,5 @@
 -- What tokens of the grammar are to the machine.
-use Rattle.std.proofs.Common.{◌≡◌, ◌∙◌, ℕ, ◌<◌, ◌≤◌, zero, suc, Bool, true, false, ◌&&◌, nat_lt, List, refl, sym, ap, arith, codes, if◌then◌else◌}
+use Rattle.std.proofs.Common.{◌≡◌, ◌∙◌, ℕ, ◌<◌, ◌≤◌, Bool, true, false, ◌&&◌, List, refl, arith, codes, if◌then◌else◌}
 use Rattle.std.proofs.lemmas.Bool.{false_from_ne_true}
 use Rattle.std.specs.Str.{bytes_eq}
 use Rattle.std.proofs.lemmas.Slice.Eq.{bytes_eq-Decides}
@@ -8,7 +8,7 @@ use Rattle.sv_lexer.specs.declared.token.TokenKind.{TokenKind}
 use Rattle.sv_lexer.specs.declared.token.TokenKind.TheVariants as kind
 use Rattle.sv_lexer.specs.declared.token.Token.{Token}
 use Rattle.expr_parser.specs.Spelling.{is_identifier, is_function, is_unary, is_this, is_sign, precedence, binds}
-use Rattle.expr_parser.proofs.Machine.{Start, a_sign, a_number, a_fill, a_name, a_function, a_group, a_brace, start_of, start_by}
+use Rattle.expr_parser.proofs.Machine.{a_sign, a_number, a_fill, a_name, a_function, a_group, a_brace, start_of, start_by}
 
 pub both : (a b : Bool) → (a && b) ≡ true → (a ≡ true) × (b ≡ true)
 both true b h = (refl, h)

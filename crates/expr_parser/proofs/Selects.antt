@@ -1,22 +1,20 @@
 -- What reading gives for names and their selects.
-use Rattle.std.proofs.Common.{◌≡◌, ◌∙◌, ◌⊎◌, inl, inr, ℕ, zero, suc, ◌+◌, ◌-◌, ◌<◌, ◌≤◌, ◌==◌, Bool, true, false, nat_le, List, [], ◌∷◌, ◌++◌, length, Option, Some, None, Result, Ok, Err, refl, sym, ap, subst, arith, codes, append_assoc, append-nil, length-append, if◌then◌else◌}
+use Rattle.std.proofs.Common.{◌≡◌, ◌∙◌, ℕ, suc, ◌+◌, ◌-◌, ◌≤◌, Bool, true, false, List, [], ◌∷◌, ◌++◌, length, Ok, refl, sym, ap, subst, arith, codes, append_assoc, length-append, if◌then◌else◌}
 use Rattle.sv_lexer.specs.declared.token.Token.{Token}
-use Rattle.sv_ast.specs.declared.expression.Id.{Id}
 use Rattle.sv_ast.specs.declared.expression.Sel.{Sel}
 use Rattle.sv_ast.specs.declared.expression.Sel.TheVariants as sel
 use Rattle.sv_ast.specs.declared.expression.Expr.{Expr}
 use Rattle.sv_ast.specs.declared.expression.Expr.TheVariants as e
-use Rattle.expr_parser.specs.Spelling.{is_this, is_identifier, binds}
+use Rattle.expr_parser.specs.Spelling.{is_this, is_identifier}
 use Rattle.expr_parser.specs.Grammar.{Between, down_to, up_from, down_from, Phrase, number, name, selected, ranged, tokens_of, tree_of, id_of, range_of, between_text, Is, IsPhrase, strength}
 use Rattle.expr_parser.specs.Nesting.{nesting, operators, in_brackets, one_after, greatest_nesting}
-use Rattle.expr_parser.specs.Input.{Input, Outcome, Parser, past_marks, front_of, after, sees, and_then, rise, take_id, refusal, refuse, expect}
-use Rattle.expr_parser.specs.Reading.{opening, whole, select, select_from, selects, read}
-use Rattle.expr_parser.proofs.Machine.{Frame, in_select, in_range, State, wants, has, failed, reduce, closed, begun, step, steps, operand_of}
-use Rattle.expr_parser.proofs.Took.{Took, Took-none, Took-then}
-use Rattle.expr_parser.proofs.Roles.{start_of-name}
+use Rattle.expr_parser.specs.Input.{Input, Parser, after, sees, and_then, refusal, expect}
+use Rattle.expr_parser.specs.Reading.{whole, select, select_from, selects, read}
+use Rattle.expr_parser.proofs.Machine.{Frame, in_select, in_range, wants, has, failed, closed, step, steps}
+use Rattle.expr_parser.proofs.Took.{Took, Took-then}
 use Rattle.expr_parser.proofs.Complete.{steps-append, reads_phrase, opened-select, between-step, has-selected, has-ranged}
-use Rattle.expr_parser.proofs.Spot.{Fits, IsFinal, Judged, judged_then, Spot, Inner, inside, cases_le}
-use Rattle.expr_parser.proofs.Part.{Next, Part, Good, spare, deep_at, stuck_at, spot-small, judged_expect, judged_take, sees-yes, sees-no, Took-after, after-last, after-nested}
+use Rattle.expr_parser.proofs.Spot.{IsFinal, Judged, judged_then, Spot, Inner, inside}
+use Rattle.expr_parser.proofs.Part.{Next, spare, deep_at, spot-small, judged_expect, judged_take, sees-yes, sees-no, Took-after, after-last, after-nested}
 use Rattle.expr_parser.proofs.Inners.{nesting-zero, in_brackets-at, one_after-first, one_after-second, one_shallow, two_shallow}
 use Rattle.expr_parser.proofs.Operators.{IsReader, IsOperand}
 use Rattle.expr_parser.proofs.Levels.{IsWhole, judged_whole}

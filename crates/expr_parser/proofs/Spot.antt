@@ -1,20 +1,17 @@
 -- Where a reading stands in the whole text: what was read, what may still come, and what the machine makes of it.
-use Rattle.std.proofs.Common.{◌≡◌, ◌∙◌, ◌⊎◌, inl, inr, ℕ, zero, suc, ◌+◌, ◌-◌, ◌<◌, ◌≤◌, Bool, true, false, List, [], ◌∷◌, ◌++◌, length, Option, Some, None, Result, Ok, Err, refl, sym, ap, subst, arith, codes, append_assoc, append-nil, length-append}
+use Rattle.std.proofs.Common.{◌≡◌, ◌∙◌, ◌⊎◌, inl, inr, ℕ, ◌+◌, ◌-◌, ◌<◌, ◌≤◌, List, [], ◌∷◌, ◌++◌, length, Some, Ok, Err, sym, ap, subst, arith, append_assoc, length-append}
 use Rattle.std.proofs.lemmas.Bool.Decides.{leb_tells}
 use Rattle.sv_lexer.specs.declared.token.Token.{Token}
-use Rattle.sv_lexer.specs.declared.token.TokenKind.TheVariants as kind
-use Rattle.sv_base.specs.declared.refusal.Place.{Place}
 use Rattle.sv_base.specs.declared.refusal.Refusal.{Refusal}
 use Rattle.sv_ast.specs.declared.expression.Expr.{Expr}
 use Rattle.expr_parser.specs.declared.fault.ParseFault.{ParseFault}
 use Rattle.expr_parser.specs.declared.fault.ParseFault.TheVariants.{Refused, NoMemory}
-use Rattle.expr_parser.specs.Spelling.{is_this, binds}
-use Rattle.expr_parser.specs.Grammar.{Phrase, number, tokens_of, tree_of, IsPhrase, strength}
-use Rattle.expr_parser.specs.Nesting.{nesting, operators, greatest_nesting}
+use Rattle.expr_parser.specs.Grammar.{Phrase, tokens_of, IsPhrase, strength}
+use Rattle.expr_parser.specs.Nesting.{nesting, greatest_nesting}
 use Rattle.expr_parser.specs.Outcome.{refusal_at, nesting_refusal, BeginsWith, IsShallow}
-use Rattle.expr_parser.specs.Input.{Input, Outcome, Parser, past_marks, front_of, behind, ahead, next, after, and_then, refusal, too_deep, deep_refusal}
-use Rattle.expr_parser.proofs.Machine.{Frame, State, wants, failed, reduce, step, steps, operand_of}
-use Rattle.expr_parser.proofs.Took.{Took, Took-none, Took-then}
+use Rattle.expr_parser.specs.Input.{Input, Outcome, Parser, past_marks, front_of, and_then}
+use Rattle.expr_parser.proofs.Machine.{Frame, wants, failed, reduce, step, steps, operand_of}
+use Rattle.expr_parser.proofs.Took.{Took, Took-then}
 use Rattle.expr_parser.proofs.Complete.{Holds, steps-append}
 
 -- strong enough for an operand of a sign that binds so; any phrase is where there is no sign

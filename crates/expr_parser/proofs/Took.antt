@@ -1,5 +1,5 @@
 -- From one place of a list to a later one, and the tokens of the grammar on the way.
-use Rattle.std.proofs.Common.{◌≡◌, ◌∙◌, ℕ, ◌+◌, ◌-◌, ◌<◌, ◌≤◌, Bool, true, false, List, [], ◌∷◌, ◌++◌, length, Option, Some, None, refl, sym, ap, subst, arith, if◌then◌else◌, append_assoc, length-append}
+use Rattle.std.proofs.Common.{◌≡◌, ◌∙◌, ◌<◌, Bool, true, false, List, [], ◌∷◌, ◌++◌, length, Some, refl, sym, ap, arith, if◌then◌else◌, append_assoc, length-append}
 use Rattle.sv_lexer.specs.declared.token.Token.{Token}
 use Rattle.sv_base.specs.declared.refusal.Place.{Place}
 use Rattle.expr_parser.specs.Spelling.{is_mark}

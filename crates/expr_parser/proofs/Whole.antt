@@ -1,22 +1,21 @@
 -- What reading gives, for every kind of operand.
-use Rattle.std.proofs.Common.{◌≡◌, ◌∙◌, ◌⊎◌, inl, inr, ℕ, zero, suc, ◌+◌, ◌-◌, ◌<◌, ◌≤◌, ◌&&◌, Bool, true, false, List, [], ◌∷◌, ◌++◌, length, Option, Some, None, Result, Ok, Err, refl, sym, ap, subst, arith, codes, if◌then◌else◌}
+use Rattle.std.proofs.Common.{◌≡◌, ◌∙◌, ℕ, suc, ◌+◌, ◌≤◌, Bool, true, false, List, [], ◌∷◌, Option, Some, None, Ok, Err, refl, sym, ap, subst, arith, codes, if◌then◌else◌}
 use Rattle.sv_lexer.specs.declared.token.Token.{Token}
 use Rattle.sv_lexer.specs.declared.token.TokenKind.{TokenKind}
 use Rattle.sv_lexer.specs.declared.token.TokenKind.TheVariants as kind
-use Rattle.sv_base.specs.declared.refusal.Place.{Place}
 use Rattle.sv_ast.specs.declared.expression.Expr.{Expr}
 use Rattle.sv_ast.specs.declared.expression.Expr.TheVariants as e
-use Rattle.expr_parser.specs.Spelling.{is_this, is_unary, is_identifier, is_function, is_number, is_fill, is_sign}
-use Rattle.expr_parser.specs.Grammar.{Phrase, number, concat, Phrases, only, tokens_of, Is, IsPhrase, id_of}
-use Rattle.expr_parser.specs.Nesting.{nesting, nestings, in_brackets, greatest_nesting}
+use Rattle.expr_parser.specs.Spelling.{is_this, is_unary, is_identifier, is_function, is_number, is_fill}
+use Rattle.expr_parser.specs.Grammar.{number, concat, only, Is}
+use Rattle.expr_parser.specs.Nesting.{nesting, greatest_nesting}
 use Rattle.expr_parser.specs.Input.{Input, Outcome, Parser, past_marks, front_of, after, next, ahead, sees, and_then, take_id, refusal, refuse, expect}
 use Rattle.expr_parser.specs.Reading.{whole, read, system, parenthesised, repeated, braced_from, braced, primary, primary_by}
 use Rattle.expr_parser.specs.Reading as reading
-use Rattle.expr_parser.proofs.Machine.{Frame, in_braces, in_group, wants, failed, begun, Start, no_start, start_of, start_by, step, steps, operand_of}
+use Rattle.expr_parser.proofs.Machine.{Frame, in_braces, in_group, begun, no_start, start_of, start_by, step}
 use Rattle.expr_parser.proofs.Roles.{start_is}
 use Rattle.expr_parser.proofs.Took.{Took, Took-none, Took-then}
-use Rattle.expr_parser.proofs.Spot.{Fits, IsFinal, Judged, judged_then, Spot, Inner, inside}
-use Rattle.expr_parser.proofs.Part.{Next, spare, deep_at, stuck_at, spot-small, judged_expect, sees-yes, sees-no, Took-after, after-last, after-nested}
+use Rattle.expr_parser.proofs.Spot.{IsFinal, Judged, judged_then, Spot, inside}
+use Rattle.expr_parser.proofs.Part.{Next, spare, deep_at, stuck_at, spot-small, judged_expect, sees-yes, sees-no, Took-after, after-last}
 use Rattle.expr_parser.proofs.Inners.{in_brackets-at}
 use Rattle.expr_parser.proofs.Operators.{IsReader, IsOperand}
 use Rattle.expr_parser.proofs.Levels.{PrimaryIs, NoSign, IsWhole, judged_whole}

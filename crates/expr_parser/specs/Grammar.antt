@@ -1,5 +1,5 @@
 -- The grammar of expressions (IEEE 1800-2017, 11.2 to 11.4): which tokens are which expression.
-use Rattle.std.specs.Prelude.{◌≡◌, ◌<◌, ◌≤◌, ℕ, Bool, true, List, [], ◌∷◌, ◌++◌, codes}
+use Rattle.std.specs.Prelude.{◌≡◌, ◌<◌, ◌≤◌, ℕ, true, List, [], ◌∷◌, ◌++◌, codes}
 use Rattle.sv_base.specs.declared.refusal.Place.{Place}
 use Rattle.sv_lexer.specs.declared.token.TokenKind.TheVariants as kind
 use Rattle.sv_lexer.specs.declared.token.Token.{Token}

@@ -1,5 +1,5 @@
 -- What a parser reads from, and the steps that every rule of the grammar is made of.
-use Rattle.std.specs.Prelude.{◌≡◌, ◌≢◌, ℕ, zero, suc, ◌+◌, Bool, true, false, if◌then◌else◌, nat_lt, List, [], ◌∷◌, ◌++◌, length, Option, Some, None, Result, Ok, Err, refl, codes}
+use Rattle.std.specs.Prelude.{◌≡◌, ◌≢◌, ℕ, ◌+◌, Bool, false, if◌then◌else◌, nat_lt, List, [], ◌∷◌, length, Option, Some, None, Result, Ok, Err}
 use Rattle.sv_base.specs.declared.refusal.Place.{Place}
 use Rattle.sv_base.specs.declared.refusal.Refusal.{Refusal}
 use Rattle.sv_lexer.specs.declared.token.Token.{Token}

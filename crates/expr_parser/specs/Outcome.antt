@@ -1,7 +1,5 @@
 -- What is read of a list of tokens from a place on, and what is refused there.
-use Rattle.std.specs.Prelude.{◌≡◌, ◌⊎◌, ◌+◌, ◌<◌, ◌≤◌, ℕ, Bool, true, false, if◌then◌else◌, List, [], ◌∷◌, ◌++◌, length, drop, codes}
-use Rattle.std.specs.List.{filter}
-use Rattle.sv_base.specs.declared.kind.Kind.{Kind}
+use Rattle.std.specs.Prelude.{◌≡◌, ◌⊎◌, ◌+◌, ◌≤◌, ℕ, false, if◌then◌else◌, List, [], ◌∷◌, ◌++◌, length, drop, codes}
 use Rattle.sv_base.specs.declared.kind.Kind.TheVariants as kind
 use Rattle.sv_base.specs.declared.refusal.Place.{Place}
 use Rattle.sv_base.specs.declared.refusal.Refusal.{Refusal}

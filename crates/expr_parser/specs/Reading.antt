@@ -1,5 +1,5 @@
 -- Reading an expression from tokens, from left to right.
-use Rattle.std.specs.Prelude.{◌≡◌, ℕ, zero, suc, ◌+◌, ◌==◌, Bool, true, false, ◌||◌, if◌then◌else◌, nat_le, nat_lt, List, [], ◌∷◌, ◌++◌, length, codes, Option, Some, None, Result, Ok, Err}
+use Rattle.std.specs.Prelude.{ℕ, zero, suc, ◌==◌, Bool, false, if◌then◌else◌, nat_le, List, [], ◌∷◌, ◌++◌, codes, Option, Some, None, Ok}
 use Rattle.sv_base.specs.declared.refusal.Place.{Place}
 use Rattle.sv_lexer.specs.declared.token.Token.{Token}
 use Rattle.sv_ast.specs.declared.expression.Id.{Id}
@@ -8,7 +8,7 @@ use Rattle.sv_ast.specs.declared.expression.Sel.TheVariants as sel
 use Rattle.sv_ast.specs.declared.expression.Expr.{Expr}
 use Rattle.sv_ast.specs.declared.expression.Expr.TheVariants as e
 use Rattle.expr_parser.specs.Spelling.{is_identifier, is_function, is_unary, is_number, is_fill, binds}
-use Rattle.expr_parser.specs.Input.{Parser, Input, ◌>>=◌, ◌>>◌, ◌<$>◌, pure, refuse, peek, next, sees, skip, take_id, expect, rise, enter, leave, turns}
+use Rattle.expr_parser.specs.Input.{Parser, ◌>>=◌, ◌>>◌, ◌<$>◌, pure, refuse, next, sees, skip, take_id, expect, rise, enter, leave, turns}
 
 -- how tightly the next token binds between two operands
 abbrev pub binds_next : Option Token → ℕ

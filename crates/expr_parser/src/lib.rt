@@ -11,7 +11,7 @@ mod parser;
 mod spelling;
 
 pub use fault::ParseFault;
-pub use law::one_tree;
+pub use law::{not_both, one_nesting, one_reading, one_refusal, one_tree};
 pub use parser::parse_expr;
 
 #[cfg(test)]

@@ -1,5 +1,6 @@
 ghost use Rattle.std.specs.Prelude.{◌≤◌, length, IfOk, IfErr};
 ghost use Rattle.expr_parser.specs.Outcome.{IsRead, IsFaultOf};
+ghost use Rattle.expr_parser.specs.Spelled.{AreSpelled, IsWritten};
 
 use crate::cursor::{Cursor, last_place};
 use crate::fault::ParseFault;
@@ -20,6 +21,7 @@ pub fn parse_expr(
     requires place { at ≤ length tokens.now.items }
     requires nesting { depth ≤ 256 }
     ensures read { IfOk result (λ r. IsRead tokens.now.items at depth r.0 r.1) }
+    ensures written { IfOk result (λ r. AreSpelled tokens.now.items → IsWritten r.0) }
     ensures refused { IfErr result (IsFaultOf tokens.now.items at depth) }
 {
     let last = last_place(tokens.as_slice());

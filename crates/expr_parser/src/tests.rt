@@ -284,12 +284,16 @@ fn check(rt: &impl Abort, alloc: Global, text: &[u8], expected: &str) -> Result<
     Ok(())
 }
 
-#[test]
-fn rows_are_read(rt: HostRuntime) -> Result<(), Fail> {
-    for (text, expected) in &ROWS {
-        check(&rt, rt.alloc(), text.as_bytes(), *expected)?;
+fn each_is_read(rt: &impl Abort, alloc: Global, rows: &[(&str, &str)]) -> Result<(), Fail> {
+    for (text, expected) in rows {
+        check(rt, alloc, text.as_bytes(), *expected)?;
     }
     Ok(())
+}
+
+#[test]
+fn rows_are_read(rt: HostRuntime) -> Result<(), Fail> {
+    each_is_read(&rt, rt.alloc(), &ROWS)
 }
 
 /// The text `count` times, and then the end.
@@ -302,26 +306,20 @@ fn repeated(alloc: Global, count: u32, text: &str, end: &str) -> Result<Vec<u8>,
     Ok(out)
 }
 
-/// Texts that nest once each time, with what ends them, what a great one gives, and the sign at which it is refused.
-const DEEP: [(&str, &str, &str); 9] = [
-    ("(", "a", "TooMany nesting 1:1"),
-    ("- ", "a", "TooMany nesting 1:1"),
-    ("a+", "a", "TooMany nesting 1:1"),
-    ("a**", "a", "TooMany nesting 1:1"),
-    ("a?b:", "a", "TooMany nesting 1:1"),
-    ("a?", "a", "TooMany nesting 1:1"),
-    ("{", "a", "TooMany nesting 1:1"),
-    ("a[", "a", "TooMany nesting 1:1"),
-    ("{(-", "a", "TooMany nesting 1:1"),
-];
+/// Texts that nest once each time. The 257th is one too many.
+const DEEP: [&str; 9] = ["(", "- ", "a+", "a**", "a?b:", "a?", "{", "a[", "{(-"];
+
+fn each_is_too_deep(rt: &impl Abort, alloc: Global, texts: &[&str]) -> Result<(), Fail> {
+    for text in texts {
+        let long = repeated(alloc, 257, *text, "a")?;
+        check(rt, alloc, long.as_slice(), "TooMany nesting 1:1")?;
+    }
+    Ok(())
+}
 
 #[test]
 fn nesting_has_its_limit(rt: HostRuntime) -> Result<(), Fail> {
-    for (text, end, expected) in &DEEP {
-        let long = repeated(rt.alloc(), 257, *text, *end)?;
-        check(&rt, rt.alloc(), long.as_slice(), *expected)?;
-    }
-    Ok(())
+    each_is_too_deep(&rt, rt.alloc(), &DEEP)
 }
 
 /// Whether the text of so many tokens is read whole.
@@ -337,88 +335,122 @@ fn is_whole(alloc: Global, text: &[u8], depth: u32) -> Result<bool, Fail> {
     Ok(whole)
 }
 
+/// The text is read whole at this open nesting, and at no greater one.
+fn is_deep(rt: &impl Abort, alloc: Global, text: &[u8], depth: u32) -> Result<(), Fail> {
+    assert!(rt; is_whole(alloc, text, depth)?, "{text:?}");
+    assert!(rt;
+        !is_whole(alloc, text, depth.saturating_add(1))?,
+        "{text:?}"
+    );
+    Ok(())
+}
+
+/// Texts that nest once each time, or twice.
+const FULL: [(u32, &str); 5] = [
+    (256, "- "),
+    (256, "a+"),
+    (256, "a**"),
+    (256, "a?b:"),
+    (128, "!~"),
+];
+
+fn each_is_deep(rt: &impl Abort, alloc: Global, rows: &[(u32, &str)]) -> Result<(), Fail> {
+    for (count, text) in rows {
+        let long = repeated(alloc, *count, *text, "a")?;
+        is_deep(rt, alloc, long.as_slice(), 0)?;
+    }
+    Ok(())
+}
+
 #[test]
 fn nesting_of_256_is_accepted(rt: HostRuntime) -> Result<(), Fail> {
+    each_is_deep(&rt, rt.alloc(), &FULL)
+}
+
+#[test]
+fn brackets_nest_to_256(rt: HostRuntime) -> Result<(), Fail> {
     let alloc = rt.alloc();
-    for (text, end) in &[
-        ("- ", "a"),
-        ("a+", "a"),
-        ("a**", "a"),
-        ("a?b:", "a"),
-        ("!~", "a"),
-    ] {
-        let count = if *text == "!~" { 128 } else { 256 };
-        let long = repeated(alloc, count, *text, *end)?;
-        assert!(rt; is_whole(alloc, long.as_slice(), 0)?, "{text:?}");
-        assert!(rt; !is_whole(alloc, long.as_slice(), 1)?, "{text:?}");
-    }
-    let mut brackets = repeated(alloc, 256, "(", "a")?;
-    brackets.extend_from_slice(repeated(alloc, 256, ")", "")?.as_slice())?;
-    assert!(rt; is_whole(alloc, brackets.as_slice(), 0)?);
-    assert!(rt; !is_whole(alloc, brackets.as_slice(), 1)?);
-    Ok(())
+    let mut text = repeated(alloc, 256, "(", "a")?;
+    let closes = repeated(alloc, 256, ")", "")?;
+    text.extend_from_slice(closes.as_slice())?;
+    is_deep(&rt, alloc, text.as_slice(), 0)
 }
 
 #[test]
 fn a_long_list_does_not_nest(rt: HostRuntime) -> Result<(), Fail> {
     let alloc = rt.alloc();
     let mut list = repeated(alloc, 1, "{", "")?;
-    list.extend_from_slice(repeated(alloc, 2000, "-(a+b),", "c}")?.as_slice())?;
-    assert!(rt; is_whole(alloc, list.as_slice(), 252)?);
-    assert!(rt; !is_whole(alloc, list.as_slice(), 253)?);
-    Ok(())
+    let parts = repeated(alloc, 2000, "-(a+b),", "c}")?;
+    list.extend_from_slice(parts.as_slice())?;
+    is_deep(&rt, alloc, list.as_slice(), 252)
 }
 
-#[test]
-fn marks_change_nothing(rt: HostRuntime) -> Result<(), Fail> {
-    let alloc = rt.alloc();
-    let mark = "/*verilator hier_block*/";
-    let marked = repeated(alloc, 1, mark, "")?;
-    for (text, after) in &[
-        ("a + b", 7),
-        ("- ( a [ 1 : 0 ] )", 19),
-        ("{ 2 { c } }", 13),
-        ("$signed ( a ) ? b : c", 17),
-    ] {
-        let mut out = repeated(alloc, 1, mark, "")?;
-        for byte in text.as_bytes() {
-            if *byte == b' ' {
-                out.extend_from_slice(marked.as_slice())?;
-            } else {
-                out.push(*byte)?;
-            }
+const MARK: &str = "/*verilator hier_block*/";
+
+/// The text with a mark in place of each blank, and marks at its ends.
+fn with_marks(alloc: Global, text: &str) -> Result<Vec<u8>, AllocError> {
+    let mut out = repeated(alloc, 1, MARK, "")?;
+    for byte in text.as_bytes() {
+        if *byte == b' ' {
+            put(&mut out, MARK)?;
+        } else {
+            out.push(*byte)?;
         }
-        out.extend_from_slice(marked.as_slice())?;
-        out.extend_from_slice(marked.as_slice())?;
-        let tokens = tokens_of(alloc, out.as_slice())?;
-        let plain = tokens_of(alloc, text.as_bytes())?;
-        let Ok((tree, end)) = parse_expr(alloc, &tokens, 0, 0) else {
-            panic!(rt; "not read: {text:?}")
-        };
-        let Ok((same, _)) = parse_expr(alloc, &plain, 0, 0) else {
-            panic!(rt; "not read: {text:?}")
-        };
-        let mut found = Vec::new(alloc);
-        show(&mut found, &tree)?;
-        let mut wanted = Vec::new(alloc);
-        show(&mut wanted, &same)?;
-        assert_eq!(rt; found.as_slice(), wanted.as_slice(), "{text:?}");
-        assert_eq!(rt; end + 2, tokens.len(), "{text:?}");
-        assert_eq!(rt; tokens.len(), 2 * plain.len() + 2, "{text:?} {after}");
+    }
+    put(&mut out, MARK)?;
+    Ok(out)
+}
+
+/// The text with blanks, what it gives, and what it gives with marks.
+const MARKED: [(&str, &str, &str); 5] = [
+    ("a + b", "(a + b) 3", "(a + b) 6"),
+    ("- ( a [ 1 : 0 ] )", "(- a[1:0]) 9", "(- a[1:0]) 18"),
+    ("{ 2 { c } }", "{2{c,}} 6", "{2{c,}} 12"),
+    (
+        "$signed ( a ) ? b : c",
+        "($signed(a) ? b : c) 8",
+        "($signed(a) ? b : c) 16",
+    ),
+    ("( a", "Unexpected  1:1", "Unexpected  1:1"),
+];
+
+fn each_with_marks(
+    rt: &impl Abort,
+    alloc: Global,
+    rows: &[(&str, &str, &str)],
+) -> Result<(), Fail> {
+    for (text, plain, expected) in rows {
+        check(rt, alloc, text.as_bytes(), *plain)?;
+        let marked = with_marks(alloc, *text)?;
+        check(rt, alloc, marked.as_slice(), *expected)?;
     }
     Ok(())
 }
 
 #[test]
-fn reading_begins_at_its_place(rt: HostRuntime) -> Result<(), Fail> {
-    let alloc = rt.alloc();
-    let tokens = tokens_of(alloc, b"assign y = a + b ; c")?;
-    assert_eq!(rt; tokens.len(), 8);
-    let found = outcome(alloc, parse_expr(alloc, &tokens, 3, 7))?;
-    assert_eq!(rt; found.as_slice(), b"(a + b) 6".as_slice());
-    let found = outcome(alloc, parse_expr(alloc, &tokens, 0, 0))?;
-    assert_eq!(rt; found.as_slice(), b"Unexpected assign 1:1".as_slice());
-    let found = outcome(alloc, parse_expr(alloc, &tokens, 8, 0))?;
-    assert_eq!(rt; found.as_slice(), b"Unexpected  1:1".as_slice());
+fn marks_change_nothing(rt: HostRuntime) -> Result<(), Fail> {
+    each_with_marks(&rt, rt.alloc(), &MARKED)
+}
+
+/// What is read from a place on, at an open nesting.
+fn read_from(
+    rt: &impl Abort,
+    alloc: Global,
+    text: &[u8],
+    at: usize,
+    expected: &str,
+) -> Result<(), Fail> {
+    let tokens = tokens_of(alloc, text)?;
+    assert!(rt; at <= tokens.len());
+    let found = outcome(alloc, parse_expr(alloc, &tokens, at, 7))?;
+    assert_eq!(rt; found.as_slice(), expected.as_bytes(), "{text:?}");
     Ok(())
+}
+
+#[test]
+fn reading_begins_at_its_place(rt: HostRuntime) -> Result<(), Fail> {
+    let text = b"assign y = a + b ; c";
+    read_from(&rt, rt.alloc(), text, 3, "(a + b) 6")?;
+    read_from(&rt, rt.alloc(), text, 0, "Unexpected assign 1:1")?;
+    read_from(&rt, rt.alloc(), text, 8, "Unexpected  1:1")
 }

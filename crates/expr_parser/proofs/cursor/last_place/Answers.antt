@@ -1,4 +1,4 @@
-use Rattle.std.proofs.Common.{◌≡◌, ◌∙◌, ap}
+use Rattle.std.proofs.Common.{◌∙◌, ap}
 use Rattle.expr_parser.proofs.Last.{last_place-index}
 use Rattle.expr_parser.proofs.cursor.last_place.Goals as goal
 

@@ -1,5 +1,4 @@
 use Rattle.std.proofs.Common.{◌≡◌, ap, arith, ◌∙◌, refl}
-use Rattle.expr_parser.specs.Input.{refuse}
 use Rattle.expr_parser.specs.Reading.{expr}
 use Rattle.expr_parser.proofs.Turns.{deeper}
 use Rattle.expr_parser.proofs.grammar.+expr.Goals as goal

@@ -1,4 +1,4 @@
-use Rattle.std.proofs.Common.{◌≡◌, ◌∙◌, not, ◌&&◌, sym, ap}
+use Rattle.std.proofs.Common.{◌∙◌, not, ◌&&◌, sym, ap}
 use Rattle.sv_base.specs.Spelling.{is_reserved, used_words}
 use Rattle.expr_parser.specs.Spelling.{is_among}
 use Rattle.expr_parser.proofs.Words.{refused_alone}
