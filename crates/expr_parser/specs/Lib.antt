@@ -1,0 +1,9 @@
+pub mod Spelling
+pub mod Grammar
+pub mod Nesting
+pub mod Outcome
+pub mod Input
+pub mod Reading
+pub mod Cursor
+pub mod Nests
+pub mod Spelled

@@ -1,0 +1,75 @@
+//! The rules that hold expressions take the reader of those as a parameter, so that each is proved by itself.
+
+ghost use Rattle.expr_parser.specs.Input.{Gives};
+ghost use Rattle.expr_parser.specs.Reading as spec;
+ghost use Rattle.expr_parser.specs.Nests.{Nests};
+
+use crate::cursor::Cursor;
+use crate::fault::ParseFault;
+use std::alloc::Global;
+use sv_ast::Expr;
+
+/// How many expressions stand inside one another at most, operands among them: each has an operator or a bracket before
+/// it that counts as nesting, and 256 of those are accepted.
+pub const DEPTH: usize = 257;
+
+#[derive(Clone, Copy)]
+pub struct Grammar<F> {
+    pub alloc: Global,
+    /// How many expressions may still stand inside one another.
+    pub depth: usize,
+    pub expr: F,
+}
+
+impl<F: Fn(Global, &mut Cursor<'_>, usize, u8) -> Result<Expr, ParseFault>> Grammar<F> {
+    pub fn expr(&self, tokens: &mut Cursor<'_>, least: u8) -> Result<Expr, ParseFault>
+        requires { Nests self.now.depth (F.pre self.now.expr) (F.post self.now.expr) }
+        ensures { Gives (spec.expr self.now.depth least tokens.old) result tokens.new }
+    {
+        (self.expr)(self.alloc, tokens, self.depth, least)
+    }
+
+    /// An expression of a rule, whose operators no longer count behind it.
+    #[tactic(auto, unfolding(crate::specs::Reading::whole))]
+    pub fn whole(&self, tokens: &mut Cursor<'_>) -> Result<Expr, ParseFault>
+        requires { Nests self.now.depth (F.pre self.now.expr) (F.post self.now.expr) }
+        ensures { Gives (spec.whole (spec.expr self.now.depth) tokens.old) result tokens.new }
+    {
+        let outer = tokens.enter();
+        let tree = self.expr(tokens, 0)?;
+        tokens.leave(outer);
+        Ok(tree)
+    }
+}
+
+/// An expression that goes on with operators that bind tighter than `least`, and with `? :` too where it is 0.
+pub fn expr(
+    alloc: Global,
+    tokens: &mut Cursor<'_>,
+    depth: usize,
+    least: u8,
+) -> Result<Expr, ParseFault>
+    ensures { Gives (spec.expr depth least tokens.old) result tokens.new }
+{
+    if depth == 0 {
+        return Err(tokens.refuse(alloc));
+    }
+    Grammar {
+        alloc,
+        depth: depth - 1,
+        expr,
+    }
+    .level(tokens, least)
+}
+
+/// A whole expression.
+pub fn any(alloc: Global, tokens: &mut Cursor<'_>) -> Result<Expr, ParseFault>
+    ensures { Gives (spec.any tokens.old) result tokens.new }
+{
+    Grammar {
+        alloc,
+        depth: DEPTH,
+        expr,
+    }
+    .whole(tokens)
+}

@@ -1,0 +1,33 @@
+ghost use Rattle.std.specs.Prelude.{◌≤◌, length, IfOk, IfErr};
+ghost use Rattle.expr_parser.specs.Outcome.{IsRead, IsFaultOf};
+ghost use Rattle.expr_parser.specs.Spelled.{AreSpelled, IsWritten};
+
+use crate::cursor::{Cursor, last_place};
+use crate::fault::ParseFault;
+use crate::grammar;
+use std::alloc::Global;
+use sv_ast::Expr;
+use sv_lexer::Token;
+
+/// Reads the longest run of tokens from `at` on with which an expression begins. Where that run is an expression, it is
+/// given with the place after its last token, so that marks behind it stay; else the token after the run is refused.
+/// `depth` is the open nesting before `at`.
+pub fn parse_expr(
+    alloc: Global,
+    tokens: &Vec<Token>,
+    at: usize,
+    depth: u32,
+) -> Result<(Expr, usize), ParseFault>
+    requires place { at ≤ length tokens.now.items }
+    requires nesting { depth ≤ 256 }
+    ensures read { IfOk result (λ r. IsRead tokens.now.items at depth r.0 r.1) }
+    ensures written { IfOk result (λ r. AreSpelled tokens.now.items → IsWritten r.0) }
+    ensures refused { IfErr result (IsFaultOf tokens.now.items at depth) }
+{
+    let last = last_place(tokens.as_slice());
+    let mut cursor = Cursor::new(&tokens.as_slice()[at..], depth, last);
+    match grammar::any(alloc, &mut cursor) {
+        Ok(tree) => Ok((tree, tokens.len().saturating_sub(cursor.len()))),
+        Err(fault) => Err(fault),
+    }
+}
