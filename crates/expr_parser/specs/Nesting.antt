@@ -13,7 +13,7 @@ operators (binary q sign r) = operators q + 1 + operators r
 operators (choice q question r colon s) = operators q + 1 + operators r + operators s
 operators _ = 0
 
--- brackets around so many tokens: between the opening one and the closing one it counts 1 more than inside
+-- brackets around so many tokens: from the opening one on it counts 1 more than inside, and at the closing one no longer
 abbrev pub in_brackets : ℕ → (ℕ → ℕ) → ℕ → ℕ
 in_brackets len inside n = if n == 0 then 0 else (if nat_le n (1 + len) then 1 + inside (n - 1) else 0)
 

@@ -45,8 +45,8 @@ Stands tokens at front rest = (drop at tokens ≡ front ++ rest) × EndsInGramma
 abbrev pub IsShallow : ℕ → Phrase → ℕ → Type 0
 IsShallow depth phrase n = (k : ℕ) → k ≤ n → depth + nesting phrase k ≤ greatest_nesting
 
--- The longest run of tokens with which an expression begins is this expression, and the place after its last token is
--- this one. Marks after it stay.
+-- The longest run of tokens with which an expression begins is this expression, nowhere nested too deep, and the place after
+-- its last token is this one. Marks after it stay.
 pub record IsRead (tokens : List Token) (at depth : ℕ) (tree : Expr) (after : ℕ) : Type 0 where
   pub front : List Token
   pub rest : List Token
@@ -74,7 +74,8 @@ abbrev pub refusal_at : Place → List Token → Refusal
 refusal_at last [] = record { kind = kind.Unexpected; place = last; name = [] }
 refusal_at last (t ∷ ts) = refusal_of t
 
--- The longest run of tokens with which an expression begins is none, and the token after it is refused.
+-- The longest run of tokens with which an expression begins is no expression and nowhere nested too deep, and the token after
+-- it is refused, or the end of the list.
 pub record IsStuck (tokens : List Token) (at depth : ℕ) (refusal : Refusal) : Type 0 where
   pub front : List Token
   pub rest : List Token

@@ -10,8 +10,9 @@ use sv_ast::Expr;
 use sv_lexer::Token;
 
 /// Reads the longest run of tokens from `at` on with which an expression begins. Where that run is an expression, it is
-/// given with the place after its last token, so that marks behind it stay; else the token after the run is refused.
-/// `depth` is the open nesting before `at`.
+/// given with the place after its last token, so that marks behind it stay; else the token after the run is refused, or
+/// the end of the list. A token of the run at which the open nesting is 257 is refused before either. `depth` is the open
+/// nesting before `at`.
 pub fn parse_expr(
     alloc: Global,
     tokens: &Vec<Token>,

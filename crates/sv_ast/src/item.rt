@@ -61,7 +61,7 @@ pub struct Block {
     pub items: Items<Item>,
 }
 
-/// An item of a module, with the place of its word where it has one.
+/// An item of a module. A process, a loop and a condition have the place of their word.
 #[cycle(item)]
 #[derive(Drop)]
 pub enum Item {
@@ -70,7 +70,7 @@ pub enum Item {
     Declare(Shape, Sequence<Decl>),
     Genvar(Sequence<Id>),
     Assign(Sequence<Pair>),
-    /// `always_comb` or `always @*` (9.2.2.2).
+    /// `always_comb`, `always @*` or `always @(*)` (9.2.2.2).
     Comb(Place, Stmt),
     /// `always_ff` or `always` with its event control (9.2.2.4).
     Clocked(Place, Sequence<Edge>, Stmt),

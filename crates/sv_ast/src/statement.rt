@@ -27,7 +27,7 @@ pub struct CaseItem {
     pub body: Stmt,
 }
 
-/// A statement of a process (clause 12), with the place of its word where it has one.
+/// A statement of a process (clause 12). A condition, a choice and a loop have the place of their word.
 #[cycle(statement)]
 #[derive(Drop)]
 pub enum Stmt {
