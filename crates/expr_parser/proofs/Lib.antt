@@ -10,13 +10,14 @@ mod Part
 mod Inners
 mod Operators
 mod Levels
-mod Final
 mod Primaries
 mod Selects
 mod Lists
 mod Braces
 mod Repeats
 mod Whole
+mod Exact
+mod Final
 mod Written
 mod Counts
 mod Depths

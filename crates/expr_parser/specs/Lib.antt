@@ -7,3 +7,4 @@ pub mod Reading
 pub mod Cursor
 pub mod Nests
 pub mod Spelled
+pub mod Steady

@@ -17,6 +17,7 @@ use sv_lexer::Token;
 /// The greatest open nesting.
 const GREATEST_NESTING: u32 = 256;
 
+/// A place in a list of tokens, and the open nesting there. The parsers of larger texts read through it too.
 #[derive(Drop)]
 pub struct Cursor<'a> {
     rest: &'a [Token],
@@ -99,6 +100,7 @@ fn nesting_refusal(alloc: Global, token: &Token) -> Result<Refusal, AllocError>
 }
 
 impl<'a> Cursor<'a> {
+    /// Before these tokens, with so many open, where `last` is the place of the list's last token.
     pub fn new(rest: &'a [Token], nested: u32, last: Place) -> Cursor<'a>
         ensures { result ≡ record { rest = rest.now; nested = nested; last = last } }
     {
@@ -118,6 +120,14 @@ impl<'a> Cursor<'a> {
         self.rest.len()
     }
 
+    /// The tokens behind the last that was read.
+    pub fn rest(&self) -> &'a [Token]
+        ensures { result.now ≡ self.now.rest }
+    {
+        self.rest
+    }
+
+    /// The next token that is no mark.
     #[tactic(auto, unfolding(crate::specs::Input::next, crate::specs::Input::ahead))]
     pub fn next(&self) -> Option<&'a Token>
         ensures { option_copied result ≡ spec.next self.now }
@@ -125,6 +135,7 @@ impl<'a> Cursor<'a> {
         self.ahead.first()
     }
 
+    /// Whether this sign comes next.
     #[tactic(auto, unfolding(crate::specs::Input::sees, crate::specs::Input::next, crate::specs::Input::ahead))]
     pub fn sees(&self, text: &str) -> bool
         ensures { result ≡ spec.sees text.now self.now }
@@ -201,7 +212,7 @@ impl<'a> Cursor<'a> {
         Ok(())
     }
 
-    /// Counts one more that is open from the next token on.
+    /// Counts one more that is open from the next token on. Where 256 are open already, that token is nested too deep.
     #[tactic(auto, unfolding(crate::specs::Input::rise))]
     pub fn rise(&mut self, alloc: Global) -> Result<(), ParseFault>
         ensures { Gives (spec.rise self.old) result self.new }
@@ -213,12 +224,14 @@ impl<'a> Cursor<'a> {
         Ok(())
     }
 
+    /// How many are open here.
     pub fn enter(&self) -> u32
         ensures { spec.enter self.now ≡ Ok (result, self.now) }
     {
         self.nested
     }
 
+    /// So many are open from here on.
     pub fn leave(&mut self, outer: u32)
         ensures { spec.leave outer self.old ≡ Ok (tt, self.new) }
     {

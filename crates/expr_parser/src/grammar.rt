@@ -62,7 +62,7 @@ pub fn expr(
     .level(tokens, least)
 }
 
-/// A whole expression.
+/// Reads a whole expression, the longest that stands at the cursor, as `parse_expr` does.
 pub fn any(alloc: Global, tokens: &mut Cursor<'_>) -> Result<Expr, ParseFault>
     ensures { Gives (spec.any tokens.old) result tokens.new }
 {

@@ -10,9 +10,14 @@ mod operation;
 mod parser;
 mod spelling;
 
+pub use cursor::{Cursor, last_place};
 pub use fault::ParseFault;
-pub use law::{not_both, one_nesting, one_reading, one_refusal, one_tree};
+pub use grammar::any;
+pub use law::{
+    exact_reading, not_both, nothing_goes_on, one_nesting, one_reading, one_refusal, one_tree,
+};
 pub use parser::parse_expr;
+pub use spelling::{is_identifier, is_mark, is_this};
 
 #[cfg(test)]
 mod tests;

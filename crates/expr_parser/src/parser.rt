@@ -1,6 +1,7 @@
 ghost use Rattle.std.specs.Prelude.{◌≤◌, length, IfOk, IfErr};
 ghost use Rattle.expr_parser.specs.Outcome.{IsRead, IsFaultOf};
 ghost use Rattle.expr_parser.specs.Spelled.{AreSpelled, IsWritten};
+ghost use Rattle.expr_parser.specs.Steady.{Follows};
 
 use crate::cursor::{Cursor, last_place};
 use crate::fault::ParseFault;
@@ -12,7 +13,7 @@ use sv_lexer::Token;
 /// Reads the longest run of tokens from `at` on with which an expression begins. Where that run is an expression, it is
 /// given with the place after its last token, so that marks behind it stay; else the token after the run is refused, or
 /// the end of the list. A token of the run at which the open nesting is 257 is refused before either. `depth` is the open
-/// nesting before `at`.
+/// nesting before `at`. What is read or refused depends on the tokens alone, unless memory runs out.
 pub fn parse_expr(
     alloc: Global,
     tokens: &Vec<Token>,
@@ -24,6 +25,7 @@ pub fn parse_expr(
     ensures read { IfOk result (λ r. IsRead tokens.now.items at depth r.0 r.1) }
     ensures written { IfOk result (λ r. AreSpelled tokens.now.items → IsWritten r.0) }
     ensures refused { IfErr result (IsFaultOf tokens.now.items at depth) }
+    ensures steady { Follows tokens.now.items at depth result }
 {
     let last = last_place(tokens.as_slice());
     let mut cursor = Cursor::new(&tokens.as_slice()[at..], depth, last);

@@ -116,6 +116,7 @@ fn precedence(text: &[u8]) -> u8
     }
 }
 
+/// Whether the token is a mark, which is none of the grammar.
 pub fn is_mark(token: &Token) -> bool
     ensures { result ≡ spec.is_mark token.now.kind }
 {
@@ -165,6 +166,7 @@ pub fn is_unary(token: &Token) -> bool
     is_sign(token) && is_unary_sign(token.text.bytes())
 }
 
+/// Whether the token is this sign.
 #[tactic(auto, unfolding(crate::specs::Spelling::is_this))]
 pub fn is_this(text: &str, token: &Token) -> bool
     ensures { result ≡ spec.is_this text.now token.now }
