@@ -1,0 +1,11 @@
+pub mod Words
+pub mod Rule
+pub mod Grammar
+pub mod Outcome
+pub mod Input
+pub mod Reading
+pub mod Header
+pub mod Readers
+pub mod Nests
+pub mod Parts
+pub mod Processes

@@ -1,0 +1,23 @@
+//! Reads the modules of a file from tokens.
+#![tactic(auto)]
+
+mod bracket;
+mod cursor;
+mod declaration;
+mod header;
+mod instance;
+mod item;
+mod law;
+mod list;
+mod module;
+mod parser;
+mod process;
+mod repetition;
+mod shape;
+mod statement;
+mod target;
+mod words;
+
+pub use header::{entry_keyword, entry_shape, port_direction, port_shape};
+pub use law::{not_both, one_file, one_reading, one_refusal};
+pub use parser::parse_file;

@@ -1,0 +1,260 @@
+//! Statements (IEEE 1800-2017, clause 12).
+
+ghost use Rattle.std.specs.Prelude.{◌≡◌};
+ghost use Rattle.expr_parser.specs.Input.{Gives};
+ghost use Rattle.expr_parser.specs.Reading.{any};
+ghost use Rattle.module_parser.specs.Grammar.{is_empty, has_default, is_first_default};
+ghost use Rattle.module_parser.specs.Input.{comes};
+ghost use Rattle.module_parser.specs.Parts as parts;
+ghost use Rattle.module_parser.specs.Nests.{Nests};
+ghost use Rattle.module_parser.specs.Reading as spec;
+
+use crate::cursor::Cursor;
+use crate::target::{self, LEVELS};
+use crate::{bracket, list, repetition};
+use expr_parser::ParseFault;
+use sqlite_items::{Boxed, Items};
+use std::alloc::Global;
+use sv_ast::{CaseItem, Expr, Loop, Stmt};
+use sv_base::Sequence;
+
+/// An expression between `(` and `)`.
+pub fn test(alloc: Global, tokens: &mut Cursor<'_>) -> Result<Expr, ParseFault>
+    ensures { Gives (spec.parenthesised any tokens.old) result tokens.new }
+{
+    bracket::parenthesised(alloc, tokens, |alloc, tokens| tokens.expression(alloc))
+}
+
+fn counted(alloc: Global, tokens: &mut Cursor<'_>) -> Result<Loop, ParseFault>
+    ensures { Gives (parts.counted tokens.old) result tokens.new }
+{
+    tokens.expect_word(alloc, "int")?;
+    repetition::loop_header(alloc, tokens)
+}
+
+fn is_default(item: &CaseItem) -> bool
+    ensures { result ≡ is_empty item.now.labels }
+{
+    match item.labels.as_slice() {
+        [] => true,
+        [_, ..] => false,
+    }
+}
+
+/// Whether a `default` stands among these.
+fn has_default(items: &[CaseItem]) -> bool
+    ensures { result ≡ has_default items.now }
+{
+    let mut rest = items;
+    while let [item, behind @ ..] = rest {
+        if is_default(item) {
+            return true;
+        }
+        rest = behind;
+    }
+    false
+}
+
+/// Whether a `default` comes next, and none stands among these.
+#[tactic(auto, unfolding(crate::specs::Input::comes))]
+fn sees_default(tokens: &Cursor<'_>, found: &[CaseItem]) -> bool
+    ensures { result ≡ comes (is_first_default found.now) tokens.now }
+{
+    tokens.sees_word("default") && !has_default(found)
+}
+
+/// The rules that hold statements take the reader of those as a parameter, so that each is proved by itself.
+#[derive(Clone, Copy)]
+pub struct Statements<F> {
+    alloc: Global,
+    /// How many statements may still stand inside one another.
+    depth: usize,
+    statement: F,
+}
+
+impl<F: Fn(Global, &mut Cursor<'_>, usize) -> Result<Stmt, ParseFault>> Statements<F> {
+    fn inner(&self, alloc: Global, tokens: &mut Cursor<'_>) -> Result<Stmt, ParseFault>
+        requires { Nests spec.statement_to self.now.depth (F.pre self.now.statement) (F.post self.now.statement) }
+        ensures { Gives (spec.statement_to self.now.depth tokens.old) result tokens.new }
+    {
+        (self.statement)(alloc, tokens, self.depth)
+    }
+
+    #[tactic(auto, unfolding(crate::specs::Reading::block))]
+    fn block(&self, tokens: &mut Cursor<'_>) -> Result<Stmt, ParseFault>
+        requires { Nests spec.statement_to self.now.depth (F.pre self.now.statement) (F.post self.now.statement) }
+        ensures { Gives (spec.block (spec.statement_to self.now.depth) tokens.old) result tokens.new }
+    {
+        let (name, parts) = bracket::block_of(
+            self.alloc,
+            tokens,
+            |alloc, tokens| self.inner(alloc, tokens),
+        )?;
+        Ok(Stmt::Block(name, parts))
+    }
+
+    fn otherwise(&self, tokens: &mut Cursor<'_>) -> Result<Option<Boxed<Stmt>>, ParseFault>
+        requires { Nests spec.statement_to self.now.depth (F.pre self.now.statement) (F.post self.now.statement) }
+        ensures { Gives (parts.otherwise (spec.statement_to self.now.depth) tokens.old) result tokens.new }
+    {
+        if !tokens.sees_word("else") {
+            return Ok(None);
+        }
+        let outer = tokens.enter();
+        tokens.open_word(self.alloc, "else")?;
+        let second = Boxed::new(self.alloc, self.inner(self.alloc, tokens)?)?;
+        tokens.leave(outer);
+        Ok(Some(second))
+    }
+
+    #[tactic(auto, unfolding(crate::specs::Reading::conditional))]
+    fn conditional(&self, tokens: &mut Cursor<'_>) -> Result<Stmt, ParseFault>
+        requires { Nests spec.statement_to self.now.depth (F.pre self.now.statement) (F.post self.now.statement) }
+        ensures { Gives (spec.conditional (spec.statement_to self.now.depth) tokens.old) result tokens.new }
+    {
+        let outer = tokens.enter();
+        let opens = tokens.open_word(self.alloc, "if")?;
+        let test = test(self.alloc, tokens)?;
+        let first = Boxed::new(self.alloc, self.inner(self.alloc, tokens)?)?;
+        tokens.leave(outer);
+        let second = self.otherwise(tokens)?;
+        Ok(Stmt::If(opens.place, test, first, second))
+    }
+
+    #[tactic(auto, unfolding(crate::specs::Reading::default_item))]
+    fn default_item(&self, tokens: &mut Cursor<'_>) -> Result<CaseItem, ParseFault>
+        requires { Nests spec.statement_to self.now.depth (F.pre self.now.statement) (F.post self.now.statement) }
+        ensures { Gives (spec.default_item (spec.statement_to self.now.depth) tokens.old) result tokens.new }
+    {
+        tokens.expect_word(self.alloc, "default")?;
+        if tokens.sees(":") {
+            tokens.expect(self.alloc, ":")?;
+        }
+        let body = self.inner(self.alloc, tokens)?;
+        Ok(CaseItem {
+            labels: Sequence::new(self.alloc),
+            body,
+        })
+    }
+
+    #[tactic(auto, unfolding(crate::specs::Reading::labelled_item))]
+    fn labelled_item(&self, tokens: &mut Cursor<'_>) -> Result<CaseItem, ParseFault>
+        requires { Nests spec.statement_to self.now.depth (F.pre self.now.statement) (F.post self.now.statement) }
+        ensures { Gives (spec.labelled_item (spec.statement_to self.now.depth) tokens.old) result tokens.new }
+    {
+        let labels = list::listed(self.alloc, tokens, |alloc, tokens| tokens.expression(alloc))?;
+        tokens.expect(self.alloc, ":")?;
+        let body = self.inner(self.alloc, tokens)?;
+        Ok(CaseItem { labels, body })
+    }
+
+    #[tactic(auto, unfolding(crate::specs::Reading::case_item))]
+    fn case_item(&self, tokens: &mut Cursor<'_>, found: &[CaseItem]) -> Result<CaseItem, ParseFault>
+        requires { Nests spec.statement_to self.now.depth (F.pre self.now.statement) (F.post self.now.statement) }
+        ensures { Gives (spec.case_item (spec.statement_to self.now.depth) found.now tokens.old) result tokens.new }
+    {
+        if sees_default(tokens, found) {
+            self.default_item(tokens)
+        } else {
+            self.labelled_item(tokens)
+        }
+    }
+
+    fn case_items(&self, tokens: &mut Cursor<'_>) -> Result<Items<CaseItem>, ParseFault>
+        requires { Nests spec.statement_to self.now.depth (F.pre self.now.statement) (F.post self.now.statement) }
+        ensures { Gives (parts.case_items (spec.statement_to self.now.depth) tokens.old) result tokens.new }
+    {
+        let mut found = Items::new(self.alloc);
+        found.push(self.case_item(tokens, &[])?)?;
+        'turn: for _turn in 0..tokens.len() {
+            if !tokens.sees_no_word("endcase") {
+                return Ok(found);
+            }
+            let item = self.case_item(tokens, found.as_slice())?;
+            found.push(item)?;
+        }
+        Ok(found)
+    }
+
+    #[tactic(auto, unfolding(crate::specs::Reading::choice))]
+    fn choice(&self, tokens: &mut Cursor<'_>) -> Result<Stmt, ParseFault>
+        requires { Nests spec.statement_to self.now.depth (F.pre self.now.statement) (F.post self.now.statement) }
+        ensures { Gives (spec.choice (spec.statement_to self.now.depth) tokens.old) result tokens.new }
+    {
+        let outer = tokens.enter();
+        let opens = tokens.open_word(self.alloc, "case")?;
+        let test = test(self.alloc, tokens)?;
+        let items = self.case_items(tokens)?;
+        tokens.leave(outer);
+        tokens.expect_word(self.alloc, "endcase")?;
+        Ok(Stmt::Case(opens.place, test, items))
+    }
+
+    #[tactic(auto, unfolding(crate::specs::Reading::repetition))]
+    fn repetition(&self, tokens: &mut Cursor<'_>) -> Result<Stmt, ParseFault>
+        requires { Nests spec.statement_to self.now.depth (F.pre self.now.statement) (F.post self.now.statement) }
+        ensures { Gives (spec.repetition (spec.statement_to self.now.depth) tokens.old) result tokens.new }
+    {
+        let outer = tokens.enter();
+        let opens = tokens.open_word(self.alloc, "for")?;
+        let head = bracket::parenthesised(self.alloc, tokens, counted)?;
+        let body = Boxed::new(self.alloc, self.inner(self.alloc, tokens)?)?;
+        tokens.leave(outer);
+        Ok(Stmt::For(opens.place, head, body))
+    }
+
+    #[tactic(auto, unfolding(crate::specs::Reading::assignment))]
+    fn assignment(&self, tokens: &mut Cursor<'_>) -> Result<Stmt, ParseFault>
+        ensures { Gives (spec.assignment (spec.statement_to self.now.depth) tokens.old) result tokens.new }
+    {
+        let written = target::target(self.alloc, tokens)?;
+        let sign = tokens.take_sign_of(self.alloc, &["=", "<="])?;
+        let value = tokens.expression(self.alloc)?;
+        tokens.expect(self.alloc, ";")?;
+        Ok(Stmt::Assign(written, sign, value))
+    }
+
+    #[tactic(auto, unfolding(crate::specs::Reading::statement_level))]
+    fn statement_level(&self, tokens: &mut Cursor<'_>) -> Result<Stmt, ParseFault>
+        requires { Nests spec.statement_to self.now.depth (F.pre self.now.statement) (F.post self.now.statement) }
+        ensures { Gives (spec.statement_level (spec.statement_to self.now.depth) tokens.old) result tokens.new }
+    {
+        if tokens.sees_word("begin") {
+            self.block(tokens)
+        } else if tokens.sees_word("if") {
+            self.conditional(tokens)
+        } else if tokens.sees_word("case") {
+            self.choice(tokens)
+        } else if tokens.sees_word("for") {
+            self.repetition(tokens)
+        } else if tokens.sees_target() {
+            self.assignment(tokens)
+        } else {
+            tokens.expect(self.alloc, ";")?;
+            Ok(Stmt::Empty)
+        }
+    }
+}
+
+/// A statement with statements inside one another to this depth.
+fn statement_to(alloc: Global, tokens: &mut Cursor<'_>, depth: usize) -> Result<Stmt, ParseFault>
+    ensures { Gives (spec.statement_to depth tokens.old) result tokens.new }
+{
+    if depth == 0 {
+        return Err(tokens.refuse(alloc));
+    }
+    Statements {
+        alloc,
+        depth: depth - 1,
+        statement: statement_to,
+    }
+    .statement_level(tokens)
+}
+
+/// A statement of a process.
+#[tactic(auto, unfolding(crate::specs::Reading::statement))]
+pub fn statement(alloc: Global, tokens: &mut Cursor<'_>) -> Result<Stmt, ParseFault>
+    ensures { Gives (spec.statement tokens.old) result tokens.new }
+{
+    statement_to(alloc, tokens, LEVELS)
+}
