@@ -1,5 +1,5 @@
 -- From the end of the walk to the design and whether it is legal.
-use Rattle.std.proofs.Common.{◌≡◌, ℕ, Bool, true, false, List, [], refl, sym, ◌∙◌, ap, subst, ◌↔◌}
+use Rattle.std.proofs.Common.{◌≡◌, ℕ, Bool, true, false, List, [], refl, sym, ◌∙◌, ap, subst, ◌↔◌, inl, inr}
 use Rattle.std.specs.Prelude.{Option, None, Some, Ok, Err, IsTrue}
 use Rattle.std.specs.List.{AllByRecursion}
 use Rattle.sv_base.specs.declared.refusal.Refusal.{Refusal}
@@ -11,9 +11,9 @@ use Rattle.net_ir.specs.Plain.{HaveInitialValues, IsWhole, IsPlain}
 use Rattle.lib_create.specs.declared.fault.SourceFault.{SourceFault}
 use Rattle.lib_create.specs.declared.fault.SourceFault.TheVariants.{Refused, NoMemory}
 use Rattle.lib_create.specs.declared.tree.Module.{Module}
-use Rattle.lib_create.specs.Design.{design_of, namings_of, first_bad_name, not_plain, IsLegal, IsIllegal, BadName, NotPlain}
+use Rattle.lib_create.specs.Design.{design_of, namings_of, first_bad_name, not_plain}
 use Rattle.lib_create.specs.Faults.{IfRefused}
-use Rattle.lib_create.specs.Elaborating.{module_at}
+use Rattle.lib_create.specs.Elaborating.{module_at, IsFlaw}
 use Rattle.lib_create.proofs.Told.{told, module_told}
 use Rattle.lib_create.proofs.Plain.{initial_values, whole_drivers}
 
@@ -23,11 +23,11 @@ pub record IsElaborated (m : Module) (vars : List Var) (drivers : List Driver) :
   pub vars_are : vars ≡ (design_of m).vars
   pub drivers_are : drivers ≡ (design_of m).drivers
 
-told_ok : {A : Type 0} (b : Option Refusal) (x y : A) → told b x ≡ Ok y → (b ≡ None) × (y ≡ x)
+pub told_ok : {A : Type 0} (b : Option Refusal) (x y : A) → told b x ≡ Ok y → (b ≡ None) × (y ≡ x)
 told_ok None x y is = (refl, cc)
 told_ok (Some refusal) x y is = absurd (cc)
 
-told_err : {A : Type 0} (b : Option Refusal) (x : A) (refusal : Refusal) → told b x ≡ Err refusal → b ≡ Some refusal
+pub told_err : {A : Type 0} (b : Option Refusal) (x : A) (refusal : Refusal) → told b x ≡ Err refusal → b ≡ Some refusal
 told_err None x refusal is = absurd (cc)
 told_err (Some other) x refusal is = cc
 
@@ -41,9 +41,9 @@ elaborated m found vars given drivers is vars_are drivers_are =
     }
 
 -- the first bad name is told
-pub bad_name : (m : Module) (top : List ℕ) (fault : SourceFault) → m.name.text ≡ top → IfRefused (λ refusal. module_at m ≡ Err refusal) fault → IfRefused (IsIllegal top m) fault
-bad_name m top (Refused refusal) named is = BadName named (told_err (first_bad_name [] (namings_of m)) ((design_of m).vars, (design_of m).drivers) refusal (sym (module_told m) ∙ is))
-bad_name m top NoMemory named is = tt
+pub bad_name : (m : Module) (fault : SourceFault) → IfRefused (λ refusal. module_at m ≡ Err refusal) fault → IfRefused (IsFlaw m) fault
+bad_name m (Refused refusal) is = inl (told_err (first_bad_name [] (namings_of m)) ((design_of m).vars, (design_of m).drivers) refusal (sym (module_told m) ∙ is))
+bad_name m NoMemory is = tt
 
 pub initial_of : (m : Module) (vars : List Var) (drivers : List Driver) → IsElaborated m vars drivers → HaveInitialValues vars
 initial_of m vars drivers is = subst HaveInitialValues (sym is.vars_are) (initial_values m)
@@ -57,17 +57,13 @@ whole_of m vars drivers is =
 abbrev pub spec_of : Module → List ℕ → List Var → List Driver → Spec
 spec_of m name vars drivers = record { «module» = name; place = m.name.place; vars = vars; drivers = drivers }
 
-pub same_design : (m : Module) (name : List ℕ) (vars : List Var) (drivers : List Driver) → IsElaborated m vars drivers → name ≡ m.name.text → spec_of m name vars drivers ≡ design_of m
+pub same_design : (m : Module) (name : List ℕ) (vars : List Var) (drivers : List Driver) → IsElaborated m vars drivers → name ≡ m.name.name → spec_of m name vars drivers ≡ design_of m
 same_design m name vars drivers is named =
-    ap (λ n. spec_of m n vars drivers) named ∙ ap (λ v. spec_of m m.name.text v drivers) is.vars_are ∙ ap (spec_of m m.name.text (design_of m).vars) is.drivers_are
+    ap (λ n. spec_of m n vars drivers) named ∙ ap (λ v. spec_of m m.name.name v drivers) is.vars_are ∙ ap (spec_of m m.name.name (design_of m).vars) is.drivers_are
 
-pub legal_of : (m : Module) (top name : List ℕ) (vars : List Var) (drivers : List Driver) (plain : Bool) → IsElaborated m vars drivers → name ≡ m.name.text → m.name.text ≡ top → plain ≡ true → IsTrue plain ↔ IsPlain (spec_of m name vars drivers) → IsLegal top m
-legal_of m top name vars drivers plain is named top_is taken decides = record {
-  named = top_is;
-  names = is.right;
-  plain = subst IsPlain (same_design m name vars drivers is named) (decides.0 taken);
-}
+pub plain_is : (m : Module) (name : List ℕ) (vars : List Var) (drivers : List Driver) (plain : Bool) → IsElaborated m vars drivers → name ≡ m.name.name → plain ≡ true → IsTrue plain ↔ IsPlain (spec_of m name vars drivers) → IsPlain (design_of m)
+plain_is m name vars drivers plain is named taken decides = subst IsPlain (same_design m name vars drivers is named) (decides.0 taken)
 
-pub not_plain_of : (m : Module) (top name : List ℕ) (vars : List Var) (drivers : List Driver) (plain : Bool) (refusal : Refusal) → IsElaborated m vars drivers → name ≡ m.name.text → m.name.text ≡ top → plain ≡ false → IsTrue plain ↔ IsPlain (spec_of m name vars drivers) → refusal ≡ not_plain → IsIllegal top m refusal
-not_plain_of m top name vars drivers plain refusal is named top_is refused decides told_is =
-    NotPlain top_is is.right (λ holds. let holds_too : IsTrue plain = decides.1 (subst IsPlain (sym (same_design m name vars drivers is named)) holds) in cc) told_is
+pub not_plain_of : (m : Module) (name : List ℕ) (vars : List Var) (drivers : List Driver) (plain : Bool) (refusal : Refusal) → IsElaborated m vars drivers → name ≡ m.name.name → plain ≡ false → IsTrue plain ↔ IsPlain (spec_of m name vars drivers) → refusal ≡ not_plain → IsFlaw m refusal
+not_plain_of m name vars drivers plain refusal is named refused decides told_is =
+    inr (is.right, (λ holds. let holds_too : IsTrue plain = decides.1 (subst IsPlain (sym (same_design m name vars drivers is named)) holds) in cc), told_is)

@@ -7,35 +7,35 @@ use Rattle.std.proofs.lemmas.Bool.{or_parts}
 use Rattle.std.proofs.lemmas.List.Folds.{list_any-append}
 use Rattle.sv_base.specs.declared.face.Port.{Port}
 use Rattle.sv_base.specs.declared.refusal.Refusal.{Refusal}
-use Rattle.net_ir.specs.declared.design.Role.TheVariants as role
 use Rattle.net_ir.specs.declared.design.Var.{Var}
 use Rattle.net_ir.specs.declared.design.Spec.{Spec}
 use Rattle.net_ir.specs.Face.{ports_from, ports_of}
-use Rattle.lib_create.specs.declared.token.Token.{Token}
+use Rattle.sv_ast.specs.declared.expression.Id.{Id}
 use Rattle.lib_create.specs.declared.tree.Direction.{Direction}
 use Rattle.lib_create.specs.declared.tree.Direction.TheVariants.{In, Out}
+use Rattle.lib_create.specs.declared.tree.Declaration.{Declaration}
 use Rattle.lib_create.specs.declared.tree.PortDeclaration.{PortDeclaration}
 use Rattle.lib_create.specs.declared.tree.Module.{Module}
-use Rattle.lib_create.specs.Design.{Naming, Declares, role_of, var_of, port_var, item_declares, item_names, design_of, namings_of, is_declared, first_bad_name}
+use Rattle.lib_create.specs.Design.{Naming, Declares, role_of, var_of, port_var, inner_var, item_declares, item_names, design_of, namings_of, is_declared, first_bad_name}
 use Rattle.lib_create.proofs.Places.{all_from}
 
 -- ---- the ports are those that the header declares
 
 abbrev port_texts : List PortDeclaration → List (List ℕ)
-port_texts ports = map (λ (p : PortDeclaration). p.name.text) ports
+port_texts ports = map (λ (p : PortDeclaration). p.name.name) ports
 
-inner_names : (spec : Spec) (n : ℕ) (names : List Token) → map (λ (p : Port). p.name) (ports_from spec n (map (var_of role.Inner) names)) ≡ []
+inner_names : (spec : Spec) (n : ℕ) (names : List Declaration) → map (λ (p : Port). p.name) (ports_from spec n (map inner_var names)) ≡ []
 inner_names spec n [] = refl
 inner_names spec n (name ∷ names) = refl
 
-header_step : (spec : Spec) (n : ℕ) (direction : Direction) (name : Token) (vars : List Var) (texts : List (List ℕ)) → map (λ (p : Port). p.name) (ports_from spec (n + 1) vars) ≡ texts → map (λ (p : Port). p.name) (ports_from spec n (var_of (role_of direction) name ∷ vars)) ≡ name.text ∷ texts
-header_step spec n In name vars texts is = ap (λ names. name.text ∷ names) is
-header_step spec n Out name vars texts is = ap (λ names. name.text ∷ names) is
+header_step : (spec : Spec) (n : ℕ) (direction : Direction) (name : Id) (vars : List Var) (texts : List (List ℕ)) → map (λ (p : Port). p.name) (ports_from spec (n + 1) vars) ≡ texts → map (λ (p : Port). p.name) (ports_from spec n (var_of (role_of direction) false name ∷ vars)) ≡ name.name ∷ texts
+header_step spec n In name vars texts is = ap (λ names. name.name ∷ names) is
+header_step spec n Out name vars texts is = ap (λ names. name.name ∷ names) is
 
-header_names : (spec : Spec) (n : ℕ) (ports : List PortDeclaration) (names : List Token) → map (λ (p : Port). p.name) (ports_from spec n (map port_var ports ++ map (var_of role.Inner) names)) ≡ port_texts ports
+header_names : (spec : Spec) (n : ℕ) (ports : List PortDeclaration) (names : List Declaration) → map (λ (p : Port). p.name) (ports_from spec n (map port_var ports ++ map inner_var names)) ≡ port_texts ports
 header_names spec n [] names = inner_names spec n names
 header_names spec n (p ∷ ports) names =
-    header_step spec n p.direction p.name (map port_var ports ++ map (var_of role.Inner) names) (port_texts ports) (header_names spec (n + 1) ports names)
+    header_step spec n p.direction p.name (map port_var ports ++ map inner_var names) (port_texts ports) (header_names spec (n + 1) ports names)
 
 -- ---- names that are declared one after another
 
@@ -55,10 +55,10 @@ declared_apart : (declared : List (List ℕ)) (ports : List PortDeclaration) (re
 unfolding IsDistinct
 declared_apart declared [] rest is = (tt, tt)
 declared_apart declared (p ∷ ports) rest is =
-    let here = unless (is_declared declared p.name) _ (first_bad_name (declared ++ p.name.text ∷ []) (map (λ (q : PortDeclaration). Declares q.name) ports ++ rest)) is in
-    let others = declared_apart (declared ++ p.name.text ∷ []) ports rest here.1 in (
-      (here.0, all_from (IsNew (declared ++ p.name.text ∷ [])) (IsNew declared) (λ name new. (new_parts declared p.name.text name new).0) (port_texts ports) others.0),
-      (all_from (IsNew (declared ++ p.name.text ∷ [])) (λ name. bytes_eq p.name.text name ≡ false) (λ name new. (new_parts declared p.name.text name new).1) (port_texts ports) others.0, others.1),
+    let here = unless (is_declared declared p.name) _ (first_bad_name (declared ++ p.name.name ∷ []) (map (λ (q : PortDeclaration). Declares q.name) ports ++ rest)) is in
+    let others = declared_apart (declared ++ p.name.name ∷ []) ports rest here.1 in (
+      (here.0, all_from (IsNew (declared ++ p.name.name ∷ [])) (IsNew declared) (λ name new. (new_parts declared p.name.name name new).0) (port_texts ports) others.0),
+      (all_from (IsNew (declared ++ p.name.name ∷ [])) (λ name. bytes_eq p.name.name name ≡ false) (λ name new. (new_parts declared p.name.name name new).1) (port_texts ports) others.0, others.1),
     )
 
 pub ports_distinct : (m : Module) → first_bad_name [] (namings_of m) ≡ None → IsDistinct bytes_eq (map (λ (p : Port). p.name) (ports_of (design_of m)))

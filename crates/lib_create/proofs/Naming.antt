@@ -12,7 +12,7 @@ use Rattle.std.proofs.lemmas.Slice.Eq.{bytes_eq-Decides}
 use denote.Ref.{Bor}
 use Rattle.net_ir.specs.declared.design.Role.{Role}
 use Rattle.net_ir.specs.declared.design.Var.{Var}
-use Rattle.lib_create.specs.declared.token.Token.{Token}
+use Rattle.sv_ast.specs.declared.expression.Id.{Id}
 use Rattle.lib_create.specs.Design.{number_of, var_of}
 use Rattle.lib_create.specs.Elaborating.{names_in, number_in, AreNumbers}
 
@@ -78,9 +78,9 @@ none_of None missing = refl
 none_of (Some n) missing = absurd (cc)
 
 -- the map of the variables with one more
-pub declared : (vars after : List Var) (v : Var) (name : Token) (role : Role) (key : List ℕ) (number : ℕ) (old new : BTreeMap (Bor (List ℕ)) ℕ) (earlier : Option ℕ) → AreNumbers vars old → earlier ≡ number_of (names_in vars) name.text → is_some earlier ≡ false → key ≡ name.text → number ≡ length vars → v ≡ var_of role name → after ≡ vars ++ v ∷ [] → ((q : List ℕ) → number_in new q ≡ update bytes_eq (number_in old) key (Some number) q) → AreNumbers after new
-declared vars after v name role key number old new earlier are was missing key_is number_is v_is after_is updates =
-    let named : v.name ≡ name.text = ap (λ (w : Var). w.name) v_is in
+pub declared : (vars after : List Var) (v : Var) (name : Id) (role : Role) (wire : Bool) (key : List ℕ) (number : ℕ) (old new : BTreeMap (Bor (List ℕ)) ℕ) (earlier : Option ℕ) → AreNumbers vars old → earlier ≡ number_of (names_in vars) name.name → is_some earlier ≡ false → key ≡ name.name → number ≡ length vars → v ≡ var_of role wire name → after ≡ vars ++ v ∷ [] → ((q : List ℕ) → number_in new q ≡ update bytes_eq (number_in old) key (Some number) q) → AreNumbers after new
+declared vars after v name role wire key number old new earlier are was missing key_is number_is v_is after_is updates =
+    let named : v.name ≡ name.name = ap (λ (w : Var). w.name) v_is in
     let fresh : number_of (names_in vars) v.name ≡ None = ap (number_of (names_in vars)) named ∙ sym was ∙ none_of earlier missing in
     subst (λ vs. AreNumbers vs new) (sym after_is)
     (numbers_more vars v old new are fresh (λ q. updates q ∙ ap (λ k. update bytes_eq (number_in old) k (Some number) q) (key_is ∙ sym named) ∙ ap (λ n. update bytes_eq (number_in old) v.name (Some n) q) number_is))

@@ -22,24 +22,25 @@ use Rattle.net_ir.specs.declared.statement.Stmt.TheOpen as open_layer
 use Rattle.net_ir.specs.declared.statement.Stmt.TheOpen.{Stmt-F}
 use Rattle.net_ir.specs.declared.statement.Stmt.TheVariants.{rolls-Block, rolls-Assign}
 use Rattle.net_ir.specs.declared.statement.Stmt.TheFolds.{every-Stmt, every_made-Stmt}
-use Rattle.net_ir.specs.declared.design.Role.TheVariants as role
 use Rattle.net_ir.specs.declared.design.Var.{Var}
 use Rattle.net_ir.specs.declared.design.Target.TheVariants.{Of}
 use Rattle.net_ir.specs.Value.{widths_of, operand_of, operand_of_layer, size}
 use Rattle.net_ir.specs.Plain.{IsLawfulLayer, IsLawful, IsWholeTo, IsWholeLayer, IsWhole, HaveInitialValues}
-use Rattle.lib_create.specs.declared.token.Token.{Token}
+use Rattle.sv_ast.specs.declared.expression.Id.{Id}
 use Rattle.lib_create.specs.declared.tree.Operator.{Operator}
 use Rattle.lib_create.specs.declared.tree.Operator.TheVariants.{And, Or, Xor}
-use Rattle.lib_create.specs.declared.tree.Operand.{Operand}
 use Rattle.lib_create.specs.declared.tree.Expression.{Expression}
-use Rattle.lib_create.specs.declared.tree.Expression.TheVariants.{Single, Pair}
+use Rattle.lib_create.specs.declared.tree.Expression.TheOpen as expression
+use Rattle.lib_create.specs.declared.tree.Expression.TheOpen.{Expression-F}
+use Rattle.lib_create.specs.declared.tree.Expression.TheViews.{roll-Expression}
+use Rattle.lib_create.specs.declared.tree.Expression.TheFolds.{map-Expression, fold-roll-Expression, ind-Expression}
+use Rattle.lib_create.specs.declared.tree.Declaration.{Declaration}
+use Rattle.lib_create.specs.declared.tree.Assignment.{Assignment}
 use Rattle.lib_create.specs.declared.tree.PortDeclaration.{PortDeclaration}
-use Rattle.lib_create.specs.declared.tree.Piece.{Piece}
-use Rattle.lib_create.specs.declared.tree.Piece.TheVariants as piece
 use Rattle.lib_create.specs.declared.tree.Item.{Item}
 use Rattle.lib_create.specs.declared.tree.Item.TheVariants as item
 use Rattle.lib_create.specs.declared.tree.Module.{Module}
-use Rattle.lib_create.specs.Design.{number_of, read_of, var_of, port_var, negated_if, operand_term, operation_of, term_of, target_of, piece_statements, item_declares, item_drivers, names_of, design_of, Naming, Declares, Uses, expression_names, piece_names, item_names, namings_of, refused_by, is_declared, first_bad_name}
+use Rattle.lib_create.specs.Design.{number_of, read_of, port_var, inner_var, operation_of, term_of_layer, term_of, target_of, statement_of, item_declares, item_drivers, names_of, design_of, Naming, Declares, Uses, names_of_layer, expression_names, assignment_names, item_names, namings_of, refused_by, is_declared, first_bad_name}
 use Rattle.lib_create.proofs.Naming.{number_stays}
 use Rattle.lib_create.proofs.Told.{declared_in, declared_some, declared_by_item, port_naming, declared_ports, texts, declared_both}
 
@@ -48,7 +49,7 @@ use Rattle.lib_create.proofs.Told.{declared_in, declared_some, declared_by_item,
 -- a name that is used has a number
 abbrev pub UsedIn : List (List ℕ) → Naming → Type 0
 UsedIn names (Declares name) = ⊤
-UsedIn names (Uses name) = IsSome (number_of names name.text)
+UsedIn names (Uses name) = IsSome (number_of names name.name)
 
 some_number : (o : Option ℕ) → IsSome o → o ≡ Some (unwrap_or o 0)
 some_number None some = absurd (cc)
@@ -65,13 +66,13 @@ none_uses false refusal rest none = absurd (cc)
 all_used : (names : List (List ℕ)) (xs : List Naming) (more : List (List ℕ)) → first_bad_name names xs ≡ None → AllByRecursion (UsedIn ((names ++ declared_in xs) ++ more)) xs
 all_used names [] more none = tt
 all_used names (Declares name ∷ xs) more none =
-    let rest = none_declares (is_declared names name) (refused_by DuplicateName name) (first_bad_name (names ++ name.text ∷ []) xs) none in
-    (tt, subst (λ ns. AllByRecursion (UsedIn (ns ++ more)) xs) (append_assoc names (name.text ∷ []) (declared_in xs)) (all_used (names ++ name.text ∷ []) xs more rest))
+    let rest = none_declares (is_declared names name) (refused_by DuplicateName name) (first_bad_name (names ++ name.name ∷ []) xs) none in
+    (tt, subst (λ ns. AllByRecursion (UsedIn (ns ++ more)) xs) (append_assoc names (name.name ∷ []) (declared_in xs)) (all_used (names ++ name.name ∷ []) xs more rest))
 all_used names (Uses name ∷ xs) more none =
     let parts = none_uses (is_declared names name) (refused_by UnknownName name) (first_bad_name names xs) none in
-    let k = unwrap_or (number_of names name.text) 0 in
-    let there : number_of names name.text ≡ Some k = some_number (number_of names name.text) (sym (declared_some names name) ∙ parts.0) in
-    let stays : number_of ((names ++ declared_in xs) ++ more) name.text ≡ Some k = ap (λ ns. number_of ns name.text) (append_assoc names (declared_in xs) more) ∙ number_stays names (declared_in xs ++ more) name.text k there in
+    let k = unwrap_or (number_of names name.name) 0 in
+    let there : number_of names name.name ≡ Some k = some_number (number_of names name.name) (sym (declared_some names name) ∙ parts.0) in
+    let stays : number_of ((names ++ declared_in xs) ++ more) name.name ≡ Some k = ap (λ ns. number_of ns name.name) (append_assoc names (declared_in xs) more) ∙ number_stays names (declared_in xs ++ more) name.name k there in
     (ap is_some stays, all_used names xs more parts.1)
 
 -- what holds of both parts holds of the whole, and back
@@ -93,7 +94,7 @@ declared_by_items (x ∷ items) =
     declared_both (item_names x) (flat_map item_names items)
     ∙ ap (λ ns. ns ++ declared_in (flat_map item_names items)) (declared_by_item x)
     ∙ ap (λ ns. texts (item_declares x) ++ ns) (declared_by_items items)
-    ∙ sym (map-append (λ (t : Token). t.text) (item_declares x) (flat_map item_declares items))
+    ∙ sym (map-append (λ (d : Declaration). d.name.name) (item_declares x) (flat_map item_declares items))
 
 -- the names that items use are names of the module
 items_used : (m : Module) → first_bad_name [] (namings_of m) ≡ None → AllByRecursion (UsedIn (names_of m)) (flat_map item_names m.items)
@@ -101,7 +102,7 @@ items_used m none =
     let front = map port_naming m.ports in
     let behind = flat_map item_names m.items in
     let all : declared_in (front ++ behind) ++ [] ≡ names_of m =
-    append-nil (declared_in (front ++ behind)) ∙ declared_both front behind ∙ ap (λ ns. ns ++ declared_in behind) (declared_ports m.ports) ∙ ap (λ ns. map (λ (p : PortDeclaration). p.name.text) m.ports ++ ns) (declared_by_items m.items) in
+    append-nil (declared_in (front ++ behind)) ∙ declared_both front behind ∙ ap (λ ns. ns ++ declared_in behind) (declared_ports m.ports) ∙ ap (λ ns. map (λ (p : PortDeclaration). p.name.name) m.ports ++ ns) (declared_by_items m.items) in
     all_back (UsedIn (names_of m)) front behind (subst (λ ns. AllByRecursion (UsedIn ns) (front ++ behind)) all (all_used [] (front ++ behind) [] none))
 
 -- ---- variables of one bit
@@ -120,7 +121,7 @@ port_bits : (ports : List PortDeclaration) → AllByRecursion (λ (v : Var). v.w
 port_bits [] = tt
 port_bits (p ∷ ports) = (refl, port_bits ports)
 
-inner_bits : (names : List Token) → AllByRecursion (λ (v : Var). v.width ≡ 1) (map (var_of role.Inner) names)
+inner_bits : (names : List Declaration) → AllByRecursion (λ (v : Var). v.width ≡ 1) (map inner_var names)
 inner_bits [] = tt
 inner_bits (name ∷ names) = (refl, inner_bits names)
 
@@ -128,26 +129,26 @@ port_initial : (ports : List PortDeclaration) → HaveInitialValues (map port_va
 port_initial [] = tt
 port_initial (p ∷ ports) = (refl, port_initial ports)
 
-inner_initial : (names : List Token) → HaveInitialValues (map (var_of role.Inner) names)
+inner_initial : (names : List Declaration) → HaveInitialValues (map inner_var names)
 inner_initial [] = tt
 inner_initial (name ∷ names) = (refl, inner_initial names)
 
 -- each variable has an initial value of its width
 pub initial_values : (m : Module) → HaveInitialValues (design_of m).vars
-initial_values m = all_both (λ (v : Var). v.init.width ≡ v.width) (map port_var m.ports) (map (var_of role.Inner) (flat_map item_declares m.items)) (port_initial m.ports) (inner_initial (flat_map item_declares m.items))
+initial_values m = all_both (λ (v : Var). v.init.width ≡ v.width) (map port_var m.ports) (map inner_var (flat_map item_declares m.items)) (port_initial m.ports) (inner_initial (flat_map item_declares m.items))
 
 module_bits : (m : Module) → AreBits (names_of m) (widths_of (design_of m).vars)
 module_bits m =
     let declares = flat_map item_declares m.items in
     let ports : List Var = map port_var m.ports in
-    let inner : List Var = map (var_of role.Inner) declares in
+    let inner : List Var = map inner_var declares in
     let a = length-map (ports ++ inner) (λ (v : Var). v.width) in
     let b = length-append ports inner in
     let c = length-map m.ports port_var in
-    let d = length-map declares (var_of role.Inner) in
-    let e = length-append (map (λ (p : PortDeclaration). p.name.text) m.ports) (map (λ (t : Token). t.text) declares) in
-    let f = length-map m.ports (λ (p : PortDeclaration). p.name.text) in
-    let g = length-map declares (λ (t : Token). t.text) in
+    let d = length-map declares inner_var in
+    let e = length-append (map (λ (p : PortDeclaration). p.name.name) m.ports) (map (λ (d : Declaration). d.name.name) declares) in
+    let f = length-map m.ports (λ (p : PortDeclaration). p.name.name) in
+    let g = length-map declares (λ (d : Declaration). d.name.name) in
     record {
       many = omega arith;
       one_bit = ones (ports ++ inner) (all_both (λ (v : Var). v.width ≡ 1) ports inner (port_bits m.ports) (inner_bits declares));
@@ -196,31 +197,45 @@ bit_pair ws o a b left right = record {
   wide = size_apply ws (operation_of o) 1 0 (a ∷ b ∷ []);
 }
 
-bit_named : (names : List (List ℕ)) (ws : List ℕ) (name : Token) → AreBits names ws → IsSome (number_of names name.text) → IsBit ws (read_of names name)
+bit_named : (names : List (List ℕ)) (ws : List ℕ) (name : Id) → AreBits names ws → IsSome (number_of names name.name) → IsBit ws (read_of names name)
 bit_named names ws name bits some =
-    let k = unwrap_or (number_of names name.text) 0 in
-    let there : k < length names = number_within names name.text k (some_number (number_of names name.text) some) in
+    let k = unwrap_or (number_of names name.name) 0 in
+    let there : k < length names = number_within names name.name k (some_number (number_of names name.name) some) in
     let within : k < length ws = subst (λ n. k < n) (sym bits.many) there in
     bit_read ws k name.place within (bits.one_bit k within)
 
-bit_negated : (ws : List ℕ) (negated : Bool) (a : Term) → IsBit ws a → IsBit ws (negated_if negated a)
-bit_negated ws true a is = bit_not ws a is
-bit_negated ws false a is = is
+-- the term of an expression whose names are declared has one bit
+abbrev HasBit : Expression → Type 0
+HasBit e = (names : List (List ℕ)) (ws : List ℕ) → AreBits names ws → AllByRecursion (UsedIn names) (expression_names e) → IsBit ws (term_of names e)
 
-bit_operand : (names : List (List ℕ)) (ws : List ℕ) (o : Operand) → AreBits names ws → IsSome (number_of names o.name.text) → IsBit ws (operand_term names o)
-bit_operand names ws o bits some = bit_negated ws o.negated (read_of names o.name) (bit_named names ws o.name bits some)
+bit_layer : (y : Expression-F ((e : Expression) × HasBit e)) → HasBit (roll-Expression (map-Expression ((e : Expression) × HasBit e) Expression (λ e. e.0) y))
+bit_layer (expression.Read name) names ws bits used =
+    let is_used = subst (AllByRecursion (UsedIn names)) (fold-roll-Expression (List Naming) names_of_layer (expression.Read name)) used in
+    subst (IsBit ws) (sym (fold-roll-Expression Term (term_of_layer names) (expression.Read name))) (bit_named names ws name bits is_used.0)
+bit_layer (expression.Not e) names ws bits used =
+    let here : Expression-F Expression = expression.Not e.0 in
+    let is_used = subst (AllByRecursion (UsedIn names)) (fold-roll-Expression (List Naming) names_of_layer here) used in
+    subst (IsBit ws) (sym (fold-roll-Expression Term (term_of_layer names) here)) (bit_not ws (term_of names e.0) (e.1 names ws bits is_used))
+bit_layer (expression.Pair a operator b) names ws bits used =
+    let here : Expression-F Expression = expression.Pair a.0 operator b.0 in
+    let is_used = subst (AllByRecursion (UsedIn names)) (fold-roll-Expression (List Naming) names_of_layer here) used in
+    subst (IsBit ws) (sym (fold-roll-Expression Term (term_of_layer names) here))
+    (bit_pair ws operator (term_of names a.0) (term_of names b.0)
+    (a.1 names ws bits (all_front (UsedIn names) (expression_names a.0) (expression_names b.0) is_used))
+    (b.1 names ws bits (all_back (UsedIn names) (expression_names a.0) (expression_names b.0) is_used)))
+
+has_bit : (e : Expression) → HasBit e
+has_bit = ind-Expression HasBit (λ x y is. subst (λ z. HasBit (roll-Expression z)) is (bit_layer y))
 
 bit_term : (names : List (List ℕ)) (ws : List ℕ) (e : Expression) → AreBits names ws → AllByRecursion (UsedIn names) (expression_names e) → IsBit ws (term_of names e)
-bit_term names ws (Single only) bits used = bit_operand names ws only bits used.0
-bit_term names ws (Pair first o second) bits used =
-    bit_pair ws o (operand_term names first) (operand_term names second) (bit_operand names ws first bits used.0) (bit_operand names ws second bits used.1.0)
+bit_term names ws e bits used = has_bit e names ws bits used
 
 -- ---- assignments, statements and drivers
 
-whole_at : (names : List (List ℕ)) (ws : List ℕ) (target : Token) (value : Term) (o : Option ℕ) → AreBits names ws → number_of names target.text ≡ o → IsSome o → IsBit ws value → IsWholeTo ws (Of o target.text target.place) value
+whole_at : (names : List (List ℕ)) (ws : List ℕ) (target : Id) (value : Term) (o : Option ℕ) → AreBits names ws → number_of names target.name ≡ o → IsSome o → IsBit ws value → IsWholeTo ws (Of o target.name target.place) value
 whole_at names ws target value None bits is some bit = absurd (cc)
 whole_at names ws target value (Some k) bits is some bit =
-    let there : k < length names = number_within names target.text k is in
+    let there : k < length names = number_within names target.name k is in
     let within : k < length ws = subst (λ n. k < n) (sym bits.many) there in
     record {
       there = within;
@@ -228,8 +243,8 @@ whole_at names ws target value (Some k) bits is some bit =
       lawful = bit.lawful;
     }
 
-whole_to : (names : List (List ℕ)) (ws : List ℕ) (target : Token) (e : Expression) → AreBits names ws → AllByRecursion (UsedIn names) (Uses target ∷ expression_names e) → IsWholeTo ws (target_of names target) (term_of names e)
-whole_to names ws target e bits used = whole_at names ws target (term_of names e) (number_of names target.text) bits refl used.0 (bit_term names ws e bits used.1)
+whole_to : (names : List (List ℕ)) (ws : List ℕ) (target : Id) (e : Expression) → AreBits names ws → AllByRecursion (UsedIn names) (Uses target ∷ expression_names e) → IsWholeTo ws (target_of names target) (term_of names e)
+whole_to names ws target e bits used = whole_at names ws target (term_of names e) (number_of names target.name) bits refl used.0 (bit_term names ws e bits used.1)
 
 -- each statement of a list with what holds of it
 held : (Q : Stmt-F Stmt → Type 0) (parts : List Stmt) → AllByRecursion (every-Stmt Q) parts → List ((s : Stmt) × every-Stmt Q s)
@@ -244,26 +259,24 @@ held_parts Q (s ∷ parts) all = ap (λ ss. s ∷ ss) (held_parts Q parts all.1)
 every_block : (Q : Stmt-F Stmt → Type 0) (parts : List Stmt) → AllByRecursion (every-Stmt Q) parts → Q (open_layer.Block parts) → every-Stmt Q (statement.Block parts)
 every_block Q parts all here = subst (every-Stmt Q) (rolls-Block parts) (every_made-Stmt Q (open_layer.Block parts) (open_layer.Block (held Q parts all)) (ap (λ ss. open_layer.Block ss) (held_parts Q parts all)) here)
 
-whole_piece : (names : List (List ℕ)) (ws : List ℕ) (p : Piece) → AreBits names ws → AllByRecursion (UsedIn names) (piece_names p) → AllByRecursion (every-Stmt (IsWholeLayer ws)) (piece_statements names p)
-whole_piece names ws piece.Begin bits used = tt
-whole_piece names ws piece.End bits used = tt
-whole_piece names ws (piece.Assign a) bits used =
+whole_statement : (names : List (List ℕ)) (ws : List ℕ) (a : Assignment) → AreBits names ws → AllByRecursion (UsedIn names) (assignment_names a) → every-Stmt (IsWholeLayer ws) (statement_of names a)
+whole_statement names ws a bits used =
     let target = target_of names a.target in
     let value = term_of names a.value in
-    (subst (every-Stmt (IsWholeLayer ws)) (rolls-Assign false target value) (every_made-Stmt (IsWholeLayer ws) (open_layer.Assign false target value) (open_layer.Assign false target value) refl (refl, whole_to names ws a.target a.value bits used)), tt)
+    subst (every-Stmt (IsWholeLayer ws)) (rolls-Assign false target value) (every_made-Stmt (IsWholeLayer ws) (open_layer.Assign false target value) (open_layer.Assign false target value) refl (refl, whole_to names ws a.target a.value bits used))
 
-whole_pieces : (names : List (List ℕ)) (ws : List ℕ) (pieces : List Piece) → AreBits names ws → AllByRecursion (UsedIn names) (flat_map piece_names pieces) → AllByRecursion (every-Stmt (IsWholeLayer ws)) (flat_map (piece_statements names) pieces)
-whole_pieces names ws [] bits used = tt
-whole_pieces names ws (p ∷ pieces) bits used =
-    all_both (every-Stmt (IsWholeLayer ws)) (piece_statements names p) (flat_map (piece_statements names) pieces)
-    (whole_piece names ws p bits (all_front (UsedIn names) (piece_names p) (flat_map piece_names pieces) used))
-    (whole_pieces names ws pieces bits (all_back (UsedIn names) (piece_names p) (flat_map piece_names pieces) used))
+whole_statements : (names : List (List ℕ)) (ws : List ℕ) (assignments : List Assignment) → AreBits names ws → AllByRecursion (UsedIn names) (flat_map assignment_names assignments) → AllByRecursion (every-Stmt (IsWholeLayer ws)) (map (statement_of names) assignments)
+whole_statements names ws [] bits used = tt
+whole_statements names ws (a ∷ assignments) bits used = (
+  whole_statement names ws a bits (all_front (UsedIn names) (assignment_names a) (flat_map assignment_names assignments) used),
+  whole_statements names ws assignments bits (all_back (UsedIn names) (assignment_names a) (flat_map assignment_names assignments) used),
+)
 
 whole_item : (names : List (List ℕ)) (ws : List ℕ) (x : Item) → AreBits names ws → AllByRecursion (UsedIn names) (item_names x) → AllByRecursion (IsWhole ws) (item_drivers names x)
 whole_item names ws (item.Assign a) bits used = (whole_to names ws a.target a.value bits used, tt)
 whole_item names ws (item.Declare name) bits used = tt
 whole_item names ws (item.Process p) bits used =
-    (every_block (IsWholeLayer ws) (flat_map (piece_statements names) p.body) (whole_pieces names ws p.body bits used.1) tt, tt)
+    (every_block (IsWholeLayer ws) (map (statement_of names) p.body) (whole_statements names ws p.body bits used.1) tt, tt)
 
 whole_items : (names : List (List ℕ)) (ws : List ℕ) (items : List Item) → AreBits names ws → AllByRecursion (UsedIn names) (flat_map item_names items) → AllByRecursion (IsWhole ws) (flat_map (item_drivers names) items)
 whole_items names ws [] bits used = tt

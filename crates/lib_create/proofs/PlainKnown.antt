@@ -34,7 +34,9 @@ use Rattle.net_ir.specs.declared.design.Driver.{Driver}
 use Rattle.net_ir.specs.declared.design.Driver.TheVariants as driver
 use Rattle.net_ir.specs.declared.design.Spec.{Spec}
 use Rattle.net_ir.specs.Value.{widths_of, size}
-use Rattle.net_ir.specs.Plain.{IsLawfulLayer, IsLawful, IsWholeTo, IsWholeLayer, IsWhole, AreOrdered, IsPlainTrigger, HasPlainClocks, IsPlain}
+use Rattle.net_ir.specs.Statement.{targets_of}
+use Rattle.net_ir.specs.Drive.{target_var}
+use Rattle.net_ir.specs.Plain.{IsLawfulLayer, IsLawful, IsWholeTo, IsWholeLayer, IsWhole, AreOrdered, IsPlainTrigger, HasPlainClocks, NamesNoNet, WritesNoNet, IsPlain}
 
 -- a proof comes back from the fact that there is one
 abbrev Known : Type 0 → Type 0
@@ -214,6 +216,16 @@ clocks_known : (spec : Spec) (d : Driver) → Known (HasPlainClocks spec d)
 clocks_known spec (driver.Assign target value place) h = tt
 clocks_known spec (driver.Clocked triggers body place) h = each_known (λ (t : Trigger). IsPlainTrigger spec t.var) (λ t. trigger_known spec t.var) triggers h
 
+-- ---- nets
+
+name_known : (vars : List Var) (name : Option ℕ) → Known (NamesNoNet vars name)
+name_known vars None h = tt
+name_known vars (Some x) h = λ v is. ∥∥₁_elim h (hlevel props) (λ names. names v is)
+
+nets_known : (vars : List Var) (d : Driver) → Known (WritesNoNet vars d)
+nets_known vars (driver.Assign target value place) h = tt
+nets_known vars (driver.Clocked triggers body place) h = each_known (λ (t : Target). NamesNoNet vars (target_var t)) (λ t. name_known vars (target_var t)) (targets_of body) h
+
 pub plain_known : (spec : Spec) → ∥ IsPlain spec ∥₁ → IsPlain spec
 plain_known spec h = record {
   vars = ∥∥₁_elim h (hlevel props) (λ plain. plain.vars);
@@ -221,4 +233,5 @@ plain_known spec h = record {
   inner = ∥∥₁_elim h (hlevel props) (λ plain. plain.inner);
   ordered = ∥∥₁_elim h (ordered-prop (widths_of spec.vars) spec.drivers) (λ plain. plain.ordered);
   clocks = each_known (HasPlainClocks spec) (clocks_known spec) spec.drivers (∥∥₁_map h (λ plain. plain.clocks));
+  nets = each_known (WritesNoNet spec.vars) (nets_known spec.vars) spec.drivers (∥∥₁_map h (λ plain. plain.nets));
 }

@@ -13,7 +13,7 @@ use Rattle.lib_create.specs.Command.{Sim, meaning_of}
 use Rattle.lib_create.specs.Compiling.{IsCompiled}
 use Rattle.lib_create.specs.Design.{design_of}
 use Rattle.lib_create.specs.Outcome.{Verdict, SourceAbsent, SourceRefused, EndsWithStimulus, EndsWithSource, EndsWithWords, Ends}
-use Rattle.lib_create.proofs.Ending.{OneSource, source_apart}
+use Rattle.lib_create.proofs.Ending.{OneSource}
 use Rattle.lib_create.proofs.PlayedOut.{EndedFront}
 
 -- ---- the words are the command's
@@ -57,8 +57,8 @@ design : (files : Files) (sim : Sim) (held : Option (List ℕ)) (spec : Spec) (v
 design files sim None spec verdict trace one is ends = absurd is
 design files sim (Some bytes) spec verdict trace one (m, source, same) (inl (other, found, ends)) =
     subst (λ s. EndsWithStimulus s (get files sim.stimulus) verdict trace)
-    (ap design_of (one.modules 1 bytes other m found.spells source.spells) ∙ sym same) ends
-design files sim (Some bytes) spec verdict trace one (m, source, same) (inr (refusal, is_refused, told, empty)) = absurd (source_apart one sim.top bytes m refusal source is_refused)
+    (ap design_of (one.trees sim.top bytes other m found source) ∙ sym same) ends
+design files sim (Some bytes) spec verdict trace one (m, source, same) (inr (refusal, is_refused, told, empty)) = absurd (one.apart sim.top bytes m refusal source is_refused)
 
 -- a run of the design is a run of the command
 source : (files : Files) (sim : Sim) (held : Option (List ℕ)) (spec : Spec) (verdict : Verdict) (trace : List ℕ) → IsCompiled held sim.top (Design spec) → EndsWithStimulus spec (get files sim.stimulus) verdict trace → EndsWithSource files sim held verdict trace

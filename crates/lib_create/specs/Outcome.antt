@@ -9,9 +9,12 @@ use Rattle.sv_base.specs.declared.refusal.Refusal.{Refusal}
 use Rattle.net_ir.specs.declared.design.Spec.{Spec}
 use Rattle.net_ir.specs.Face.{ports_of}
 use Rattle.net_ir.specs.Trace.{IsTrace}
+use Rattle.sv_lexer.specs.declared.token.Token.{Token}
+use Rattle.sv_lexer.specs.Cutting as lexer
+use Rattle.sv_ast.specs.declared.module.Module as source
+use Rattle.module_parser.specs.Outcome as parser
 use Rattle.lib_create.specs.declared.tree.Module.{Module}
 use Rattle.lib_create.specs.Command.{Sim, Misuse, Wrong, TooFew, meaning_of}
-use Rattle.lib_create.specs.Grammar.{Spells, IsOutside}
 use Rattle.lib_create.specs.Design.{design_of, IsLegal, IsIllegal}
 use Rattle.stimulus_reader.specs.Stimulus.{BadLine, Script, script_of, reason_text}
 
@@ -71,17 +74,21 @@ step_limit = 16777215
 abbrev pub source_too_long : Refusal
 source_too_long = record { kind = TooMany; place = record { file = 1; line = 1 }; name = codes "file" }
 
--- the bytes of the source spell a module that is a legal design of this top
+-- the bytes of the source are tokens, these are the modules of a file, and they are a legal source of this top, whose tree is m
 pub record IsSource (top bytes : List ℕ) (m : Module) : Type 0 where
   pub short : length bytes ≤ source_limit
-  pub spells : Spells 1 bytes m
-  pub legal : IsLegal top m
+  pub tokens : List Token
+  pub lexed : lexer.IsTokens 1 bytes tokens
+  pub modules : List source.Module
+  pub read : parser.IsRead tokens modules
+  pub legal : IsLegal top modules m
 
--- why they don't: they are too many, no module, or one that is no legal design of this top
+-- why they are none: they are too many, they have no tokens, those are no file, or its modules are no design of this top
 pub data IsRefused (top bytes : List ℕ) (refusal : Refusal) : Type 0 where
   TooLong : (long : source_limit < length bytes) (told : refusal ≡ source_too_long) → IsRefused top bytes refusal
-  NoModule : (short : length bytes ≤ source_limit) (outside : IsOutside 1 bytes refusal) → IsRefused top bytes refusal
-  NoDesign : (short : length bytes ≤ source_limit) (m : Module) (spells : Spells 1 bytes m) (illegal : IsIllegal top m refusal) → IsRefused top bytes refusal
+  NoTokens : (short : length bytes ≤ source_limit) (refused : lexer.IsRefused 1 bytes refusal) → IsRefused top bytes refusal
+  NoModules : (short : length bytes ≤ source_limit) (tokens : List Token) (lexed : lexer.IsTokens 1 bytes tokens) (refused : parser.IsRefused tokens refusal) → IsRefused top bytes refusal
+  NoDesign : (short : length bytes ≤ source_limit) (tokens : List Token) (lexed : lexer.IsTokens 1 bytes tokens) (modules : List source.Module) (read : parser.IsRead tokens modules) (illegal : IsIllegal top modules refusal) → IsRefused top bytes refusal
 
 -- how the run of a design ends, and its trace, by the script of its stimulus
 abbrev pub verdict_of_bad : Option BadLine → Verdict
@@ -96,7 +103,7 @@ abbrev pub EndsWithStimulus : Spec → Option (List ℕ) → Verdict → List �
 EndsWithStimulus spec None verdict trace = (verdict ≡ StimulusAbsent) × IsTrace spec [] trace
 EndsWithStimulus spec (Some bytes) verdict trace = Plays spec (script_of (ports_of spec) step_limit bytes) verdict trace
 
--- the source is a module that is a legal design, or it is refused
+-- the source has a legal design, or it is refused
 abbrev pub EndsWithSource : Files → Sim → Option (List ℕ) → Verdict → List ℕ → Type 0
 EndsWithSource files sim None verdict trace = (verdict ≡ SourceAbsent sim.file) × (trace ≡ [])
 EndsWithSource files sim (Some bytes) verdict trace =

@@ -2,22 +2,27 @@
 
 ghost use Rattle.std.specs.Prelude.{◌≡◌, ◌≤◌, length, Some, IfOk, IfErr, IfSome};
 ghost use Rattle.std.specs.FinMap.{get};
-ghost use Rattle.io_edge.specs.Fault.{Rose};
 ghost use Rattle.lib_create.specs.declared.stop.Stop.TheVariants.{NoMemory};
-ghost use Rattle.lib_create.specs.Compiling.{IsCompiled, IsFit};
+ghost use Rattle.lib_create.specs.Compiling.{IsCompiled, IsFit, HasDesign, HaveDesign};
 ghost use Rattle.lib_create.specs.Running.{IsReadCause};
-ghost use Rattle.lib_create.specs.Outcome.{source_limit, source_too_long};
+ghost use Rattle.lib_create.specs.Outcome.{source_limit, source_too_long, IsRefused};
+ghost use Rattle.lib_create.specs.Design.{IsIllegal};
+ghost use Rattle.lib_create.specs.Faults.{IfRefused};
 
 use crate::command::Sim;
-use crate::elaboration::elaborate;
+use crate::elaboration::{elaborate, not_plain};
 use crate::fault::SourceFault;
 use crate::load::{Loaded, load};
-use crate::source::read_source;
+use crate::modules::check_modules;
+use crate::plain_form::plain_source;
 use crate::stop::Stop;
 use io_edge::Folder;
+use module_parser::parse_file;
 use net_ir::Spec;
 use std::alloc::{AllocError, Global};
+use sv_ast::Module;
 use sv_base::{Kind, Name, Place, Refusal};
+use sv_lexer::lex;
 
 /// What a source file is.
 #[derive(Drop)]
@@ -71,13 +76,33 @@ pub fn compile_bytes(alloc: Global, top: &str, bytes: &[u8]) -> Result<Compiled,
     ensures fit { IfOk result IsFit }
     ensures memory { IfErr result (λ stop. stop ≡ NoMemory) }
 {
-    match read_source(alloc, 1, bytes) {
+    match design(alloc, top.as_bytes(), bytes) {
         Err(SourceFault::NoMemory) => Err(Stop::NoMemory),
         Err(SourceFault::Refused(refusal)) => Ok(Compiled::Refused(refusal)),
-        Ok(module) => match elaborate(alloc, top.as_bytes(), &module) {
-            Err(SourceFault::NoMemory) => Err(Stop::NoMemory),
-            Err(SourceFault::Refused(refusal)) => Ok(Compiled::Refused(refusal)),
-            Ok(spec) => Ok(Compiled::Design(spec)),
-        },
+        Ok(spec) => Ok(Compiled::Design(spec)),
+    }
+}
+
+/// The design of a source, where it has one; else its first refusal.
+fn design(alloc: Global, top: &[u8], bytes: &[u8]) -> Result<Spec, SourceFault>
+    requires short { length bytes.now ≤ source_limit }
+    ensures design { IfOk result (HasDesign top.now bytes.now) }
+    ensures refused { IfErr result (IfRefused (IsRefused top.now bytes.now)) }
+{
+    let tokens = lex(alloc, 1, bytes)?;
+    let tokens = tokens.into_vec();
+    let modules = parse_file(alloc, &tokens)?;
+    design_of_modules(alloc, top, modules.as_slice())
+}
+
+/// The design of the modules of a source, where they are legal; else their first refusal.
+fn design_of_modules(alloc: Global, top: &[u8], modules: &[Module]) -> Result<Spec, SourceFault>
+    ensures design { IfOk result (HaveDesign top.now modules.now) }
+    ensures refused { IfErr result (IfRefused (IsIllegal top.now modules.now)) }
+{
+    check_modules(alloc, top, modules)?;
+    match plain_source(alloc, modules)? {
+        Some(tree) => elaborate(alloc, &tree),
+        None => Err(SourceFault::Refused(not_plain(alloc)?)),
     }
 }

@@ -1,16 +1,15 @@
 //! From the tree of a module to its design.
 
-ghost use Rattle.std.specs.Prelude.{◌≡◌, ◌+◌, ◌<◌, ◌^◌, [], length, IfOk, IfErr};
-ghost use Rattle.std.specs.List.{flat_map};
+ghost use Rattle.std.specs.Prelude.{◌≡◌, [], None, IfOk, IfErr};
 ghost use Rattle.net_ir.specs.declared.term.Term.{Apply};
-ghost use Rattle.lib_create.specs.Design.{number_of, zero_bit, role_of, var_of, operation_of, refused_by, unknown_top, not_plain, item_declares, names_of, design_of, IsLegal, IsIllegal};
+ghost use Rattle.net_ir.specs.Plain.{IsPlain};
+ghost use Rattle.lib_create.specs.Design.{number_of, zero_bit, role_of, var_of, operation_of, negation, combination, refused_by, unknown_top, not_plain, design_of, namings_of, first_bad_name};
 ghost use Rattle.lib_create.specs.Faults.{IfRefused};
-ghost use Rattle.lib_create.specs.Elaborating.{names_in, AreNumbers, Gives, walk, number_at, declare_at, port_at, operand_at, expression_at, target_at, piece_at, body_at, assign_at, trigger_at, process_at, item_at, module_at};
+ghost use Rattle.lib_create.specs.Elaborating.{names_in, AreNumbers, Gives, walk, number_at, declare_at, port_at, expression_at, target_at, statement_at, body_at, assign_at, trigger_at, process_at, item_at, module_at, IsFlaw};
 
 use crate::fault::SourceFault;
-use crate::token::Token;
 use crate::tree::{
-    Assignment, Direction, Expression, Item, Module, Operand, Operator, Piece, PortDeclaration,
+    Assignment, Declaration, Direction, Expression, Item, Module, Operator, PortDeclaration,
     Process,
 };
 use bit_ops::{Bits, Op};
@@ -18,23 +17,21 @@ use net_ir::{Driver, Role, Spec, Stmt, Target, Term, Trigger, Var, is_plain};
 use sqlite_items::Items;
 use std::alloc::{AllocError, Global};
 use std::collections::BTreeMap;
+use sv_ast::Id;
 use sv_base::{Kind, Name, Place, Refusal, Sequence};
 
-/// The design of a module, where the module is the top and legal; else its first refusal. Takes time in the size of the
+/// The design of a tree, where its names are right and it is plain; else its first refusal. Takes time in the size of the
 /// tree times the logarithm of the number of names.
-pub fn elaborate(alloc: Global, top: &[u8], tree: &Module) -> Result<Spec, SourceFault>
-    requires few { length (names_of tree.now) < 2 ^ 32 }
+pub fn elaborate(alloc: Global, tree: &Module) -> Result<Spec, SourceFault>
     ensures design { IfOk result (λ spec. spec ≡ design_of tree.now) }
-    ensures legal { IfOk result (λ spec. IsLegal top.now tree.now) }
-    ensures refused { IfErr result (IfRefused (IsIllegal top.now tree.now)) }
+    ensures names { IfOk result (λ spec. first_bad_name [] (namings_of tree.now) ≡ None) }
+    ensures plain { IfOk result (λ spec. IsPlain (design_of tree.now)) }
+    ensures refused { IfErr result (IfRefused (IsFlaw tree.now)) }
 {
-    if tree.name.text.bytes() != top {
-        return Err(SourceFault::Refused(unknown_top(alloc, top)?));
-    }
     let Found { scope, drivers } = module(alloc, tree)?;
     let Scope { vars, .. } = scope;
     let spec = Spec {
-        module: Name::of(alloc, tree.name.text.bytes())?,
+        module: Name::of(alloc, tree.name.name.bytes())?,
         place: tree.name.place,
         vars: Sequence::from_vec(vars),
         drivers: Sequence::from_vec(drivers),
@@ -47,7 +44,7 @@ pub fn elaborate(alloc: Global, top: &[u8], tree: &Module) -> Result<Spec, Sourc
 }
 
 /// The refusal of a top that isn't there.
-fn unknown_top(alloc: Global, top: &[u8]) -> Result<Refusal, AllocError>
+pub fn unknown_top(alloc: Global, top: &[u8]) -> Result<Refusal, AllocError>
     ensures { IfOk result (λ refusal. refusal ≡ unknown_top top.now) }
 {
     Ok(Refusal {
@@ -57,8 +54,8 @@ fn unknown_top(alloc: Global, top: &[u8]) -> Result<Refusal, AllocError>
     })
 }
 
-/// The refusal of a design that is not plain.
-fn not_plain(alloc: Global) -> Result<Refusal, AllocError>
+/// The refusal of a source whose form or design is not plain.
+pub fn not_plain(alloc: Global) -> Result<Refusal, AllocError>
     ensures { IfOk result (λ refusal. refusal ≡ not_plain) }
 {
     Ok(Refusal {
@@ -69,26 +66,26 @@ fn not_plain(alloc: Global) -> Result<Refusal, AllocError>
 }
 
 /// The refusal of a name where it stands.
-fn refused(alloc: Global, kind: Kind, name: &Token) -> Result<Refusal, AllocError>
+fn refused(alloc: Global, kind: Kind, name: &Id) -> Result<Refusal, AllocError>
     ensures { IfOk result (λ refusal. refusal ≡ refused_by kind name.now) }
 {
     Ok(Refusal {
         kind,
         place: name.place,
-        name: Name::of(alloc, name.text.bytes())?,
+        name: Name::of(alloc, name.name.bytes())?,
     })
 }
 
-/// The variables declared so far, and their numbers by name.
+/// The variables declared so far, and their numbers by name. Names of modules are kept as those of variables.
 #[derive(Drop)]
-struct Scope<'a> {
+pub struct Scope<'a> {
     vars: Vec<Var>,
     numbers: BTreeMap<&'a [u8], u32>,
     ghost are_numbers: { AreNumbers vars.items numbers },
 }
 
 impl<'a> Scope<'a> {
-    fn new(alloc: Global) -> Scope<'a>
+    pub fn new(alloc: Global) -> Scope<'a>
         ensures { result.vars.items ≡ [] }
     {
         Scope {
@@ -105,46 +102,55 @@ impl<'a> Scope<'a> {
     }
 
     /// The number of the variable that a use of a name means.
-    fn used(&self, alloc: Global, name: &Token) -> Result<u32, SourceFault>
+    fn used(&self, alloc: Global, name: &Id) -> Result<u32, SourceFault>
         ensures { Gives (λ number. number) result (number_at (names_in self.now.vars.items) name.now) }
     {
-        match self.number(&name.text) {
+        match self.number(&name.name) {
             Some(number) => Ok(number),
             None => Err(SourceFault::Refused(refused(alloc, Kind::UnknownName, name)?)),
         }
     }
 
-    /// The scope with one variable more.
-    fn declare(self, alloc: Global, role: Role, name: &'a Token) -> Result<Scope<'a>, SourceFault>
-        requires few { length self.vars.items < 2 ^ 32 }
-        ensures { Gives (λ scope. scope.vars.items) result (declare_at role self.entry.vars.items name.now) }
+    /// The scope with one variable more. A number past the greatest of 32 bits is told as want of memory: a source has at
+    /// most a million bytes, so there is none.
+    pub fn declare(
+        self,
+        alloc: Global,
+        role: Role,
+        wire: bool,
+        name: &'a Id,
+    ) -> Result<Scope<'a>, SourceFault>
+        ensures { Gives (λ scope. scope.vars.items) result (declare_at role wire self.entry.vars.items name.now) }
     {
-        if self.number(&name.text).is_some() {
+        if self.number(&name.name).is_some() {
             return Err(SourceFault::Refused(refused(alloc, Kind::DuplicateName, name)?));
         }
         let Scope {
             mut vars,
             mut numbers,
         } = self;
-        let _ = numbers.insert(name.text.bytes(), vars.len() as u32)?;
-        vars.push(variable(alloc, role, name)?)?;
+        if vars.len() > 0xffff_ffff {
+            return Err(SourceFault::NoMemory);
+        }
+        let _ = numbers.insert(name.name.bytes(), vars.len() as u32)?;
+        vars.push(variable(alloc, role, wire, name)?)?;
         Ok(Scope { vars, numbers })
     }
 }
 
-/// A variable of one bit, 0 at first.
-fn variable(alloc: Global, role: Role, name: &Token) -> Result<Var, AllocError>
-    ensures { IfOk result (λ var. var ≡ var_of role name.now) }
+/// A variable or a wire of one bit, 0 at first.
+fn variable(alloc: Global, role: Role, wire: bool, name: &Id) -> Result<Var, AllocError>
+    ensures { IfOk result (λ var. var ≡ var_of role wire name.now) }
 {
     Ok(Var {
-        name: Name::of(alloc, name.text.bytes())?,
+        name: Name::of(alloc, name.name.bytes())?,
         place: name.place,
         role,
         width: 1,
         low: 0,
         ranged: false,
         signed: false,
-        wire: false,
+        wire,
         init: zero(),
     })
 }
@@ -175,7 +181,6 @@ struct Found<'a> {
 
 #[tactic(auto, unfolding(crate::specs::Elaborating::module_at))]
 fn module(alloc: Global, tree: &Module) -> Result<Found<'_>, SourceFault>
-    requires few { length (names_of tree.now) < 2 ^ 32 }
     ensures { Gives (λ found. (found.scope.vars.items, found.drivers.items)) result (module_at tree.now) }
 {
     let scope = ports(alloc, tree.ports.as_slice())?;
@@ -183,18 +188,16 @@ fn module(alloc: Global, tree: &Module) -> Result<Found<'_>, SourceFault>
 }
 
 fn ports(alloc: Global, ports: &[PortDeclaration]) -> Result<Scope<'_>, SourceFault>
-    requires few { length ports.now < 2 ^ 32 }
     ensures { Gives (λ scope. scope.vars.items) result (walk port_at [] ports.now) }
 {
     let mut scope = Scope::new(alloc);
     for port in ports {
-        scope = scope.declare(alloc, role(port.direction), &port.name)?;
+        scope = scope.declare(alloc, role(port.direction), false, &port.name)?;
     }
     Ok(scope)
 }
 
 fn items<'a>(alloc: Global, scope: Scope<'a>, items: &'a [Item]) -> Result<Found<'a>, SourceFault>
-    requires few { length scope.vars.items + length (flat_map item_declares items.now) < 2 ^ 32 }
     ensures { Gives (λ found. (found.scope.vars.items, found.drivers.items)) result (walk item_at (scope.entry.vars.items, []) items.now) }
 {
     let mut found = Found {
@@ -210,7 +213,6 @@ fn items<'a>(alloc: Global, scope: Scope<'a>, items: &'a [Item]) -> Result<Found
 /// The variables and drivers with those of one more item.
 #[tactic(auto, unfolding(crate::specs::Elaborating::item_at))]
 fn item<'a>(alloc: Global, found: Found<'a>, item: &'a Item) -> Result<Found<'a>, SourceFault>
-    requires few { length found.scope.vars.items + length (item_declares item.now) < 2 ^ 32 }
     ensures { Gives (λ found. (found.scope.vars.items, found.drivers.items)) result (item_at (found.entry.scope.vars.items, found.entry.drivers.items) item.now) }
 {
     let Found { scope, mut drivers } = found;
@@ -219,8 +221,8 @@ fn item<'a>(alloc: Global, found: Found<'a>, item: &'a Item) -> Result<Found<'a>
             drivers.push(assign(alloc, &scope, assignment)?)?;
             Ok(Found { scope, drivers })
         }
-        Item::Declare(name) => {
-            let scope = scope.declare(alloc, Role::Inner, name)?;
+        Item::Declare(Declaration { wire, name }) => {
+            let scope = scope.declare(alloc, Role::Inner, *wire, name)?;
             Ok(Found { scope, drivers })
         }
         Item::Process(clocked) => {
@@ -261,12 +263,12 @@ fn process(alloc: Global, scope: &Scope<'_>, process: &Process) -> Result<Driver
 
 /// The rising edge of a clock.
 #[tactic(auto, unfolding(crate::specs::Elaborating::trigger_at))]
-fn trigger(alloc: Global, scope: &Scope<'_>, clock: &Token) -> Result<Trigger, SourceFault>
+fn trigger(alloc: Global, scope: &Scope<'_>, clock: &Id) -> Result<Trigger, SourceFault>
     ensures { Gives (λ t. t) result (trigger_at (names_in scope.now.vars.items) clock.now) }
 {
     let number = scope.used(alloc, clock)?;
     Ok(Trigger {
-        name: Name::of(alloc, clock.text.bytes())?,
+        name: Name::of(alloc, clock.name.bytes())?,
         var: Some(number),
         falling: false,
         place: clock.place,
@@ -275,86 +277,89 @@ fn trigger(alloc: Global, scope: &Scope<'_>, clock: &Token) -> Result<Trigger, S
 
 /// The assignments of a process as one block.
 #[tactic(auto, unfolding(crate::specs::Elaborating::body_at))]
-fn body(alloc: Global, scope: &Scope<'_>, pieces: &[Piece]) -> Result<Stmt, SourceFault>
-    ensures { Gives (λ s. s) result (body_at (names_in scope.now.vars.items) pieces.now) }
+fn body(alloc: Global, scope: &Scope<'_>, assignments: &[Assignment]) -> Result<Stmt, SourceFault>
+    ensures { Gives (λ s. s) result (body_at (names_in scope.now.vars.items) assignments.now) }
 {
     let mut parts = Items::new(alloc);
-    for next in pieces {
-        piece(alloc, scope, &mut parts, next)?;
+    for next in assignments {
+        statement(alloc, scope, &mut parts, next)?;
     }
     Ok(Stmt::Block(parts))
 }
 
-/// Adds the statement of one more piece.
-#[tactic(auto, unfolding(crate::specs::Elaborating::piece_at))]
-fn piece(
+/// Adds the statement of one more assignment.
+#[tactic(auto, unfolding(crate::specs::Elaborating::statement_at))]
+fn statement(
     alloc: Global,
     scope: &Scope<'_>,
     parts: &mut Items<Stmt>,
-    piece: &Piece,
+    assignment: &Assignment,
 ) -> Result<(), SourceFault>
-    ensures { Gives (λ _. parts.new) result (piece_at (names_in scope.now.vars.items) parts.old piece.now) }
+    ensures { Gives (λ _. parts.new) result (statement_at (names_in scope.now.vars.items) parts.old assignment.now) }
 {
-    match piece {
-        Piece::Begin | Piece::End => Ok(()),
-        Piece::Assign(assignment) => {
-            let target = target(alloc, scope, &assignment.target)?;
-            let value = term(alloc, scope, &assignment.value)?;
-            parts.push(Stmt::Assign {
-                blocking: false,
-                target,
-                value,
-            })?;
-            Ok(())
-        }
-    }
+    let target = target(alloc, scope, &assignment.target)?;
+    let value = term(alloc, scope, &assignment.value)?;
+    parts.push(Stmt::Assign {
+        blocking: false,
+        target,
+        value,
+    })?;
+    Ok(())
 }
 
 #[tactic(auto, unfolding(crate::specs::Elaborating::target_at))]
-fn target(alloc: Global, scope: &Scope<'_>, name: &Token) -> Result<Target, SourceFault>
+fn target(alloc: Global, scope: &Scope<'_>, name: &Id) -> Result<Target, SourceFault>
     ensures { Gives (λ t. t) result (target_at (names_in scope.now.vars.items) name.now) }
 {
     let number = scope.used(alloc, name)?;
     Ok(Target::Of {
         var: Some(number),
-        name: Name::of(alloc, name.text.bytes())?,
+        name: Name::of(alloc, name.name.bytes())?,
         place: name.place,
     })
 }
 
 /// The term of an expression.
-#[tactic(auto, unfolding(crate::specs::Elaborating::expression_at))]
 fn term(alloc: Global, scope: &Scope<'_>, expression: &Expression) -> Result<Term, SourceFault>
     ensures { Gives (λ t. t) result (expression_at (names_in scope.now.vars.items) expression.now) }
 {
     match expression {
-        Expression::Single(only) => operand(alloc, scope, only),
+        Expression::Read(name) => {
+            let var = scope.used(alloc, name)?;
+            Ok(Term::Read {
+                var,
+                place: name.place,
+            })
+        }
+        Expression::Not(operand) => {
+            let operand = term(alloc, scope, operand.get())?;
+            Ok(negated(alloc, operand)?)
+        }
         Expression::Pair(first, operator, second) => {
-            let left = operand(alloc, scope, first)?;
-            let right = operand(alloc, scope, second)?;
-            let mut args = Items::new(alloc);
-            args.push(left)?;
-            args.push(right)?;
-            Ok(apply(operation(*operator), args))
+            let left = term(alloc, scope, first.get())?;
+            let right = term(alloc, scope, second.get())?;
+            Ok(combined(alloc, *operator, left, right)?)
         }
     }
 }
 
-#[tactic(auto, unfolding(crate::specs::Elaborating::operand_at))]
-fn operand(alloc: Global, scope: &Scope<'_>, operand: &Operand) -> Result<Term, SourceFault>
-    ensures { Gives (λ t. t) result (operand_at (names_in scope.now.vars.items) operand.now) }
+/// `~` of a term.
+fn negated(alloc: Global, term: Term) -> Result<Term, AllocError>
+    ensures { IfOk result (λ t. t ≡ negation term) }
 {
-    let var = scope.used(alloc, &operand.name)?;
-    let read = Term::Read {
-        var,
-        place: operand.name.place,
-    };
-    if !operand.negated {
-        return Ok(read);
-    }
     let mut args = Items::new(alloc);
-    args.push(read)?;
+    args.push(term)?;
     Ok(apply(Op::Not, args))
+}
+
+/// An operator with two terms.
+fn combined(alloc: Global, operator: Operator, left: Term, right: Term) -> Result<Term, AllocError>
+    ensures { IfOk result (λ t. t ≡ combination operator left right) }
+{
+    let mut args = Items::new(alloc);
+    args.push(left)?;
+    args.push(right)?;
+    Ok(apply(operation(operator), args))
 }
 
 /// An operation of one bit.
@@ -383,6 +388,7 @@ fn operation(operator: Operator) -> Op
 #[cfg(test)]
 mod tests {
     use super::*;
+    use sqlite_items::Boxed;
     use std::test::Fail;
 
     /// A port: its direction and its name.
@@ -401,31 +407,29 @@ mod tests {
     /// lone operand is negated. The ports stand on line 1, and each row on a line of its own behind them.
     type Row<'a> = (Sort, &'a str, &'a str, Option<(Operator, &'a str)>);
 
-    fn token(alloc: Global, line: u32, text: &str) -> Result<Token, AllocError> {
-        Ok(Token {
-            text: Name::of(alloc, text.as_bytes())?,
+    fn id(alloc: Global, line: u32, text: &str) -> Result<Id, AllocError> {
+        Ok(Id {
+            name: Name::of(alloc, text.as_bytes())?,
             place: Place { file: 1, line },
         })
     }
 
-    fn operand(alloc: Global, line: u32, negated: bool, text: &str) -> Result<Operand, AllocError> {
-        Ok(Operand {
-            negated,
-            name: token(alloc, line, text)?,
-        })
+    fn operand(alloc: Global, line: u32, text: &str) -> Result<Expression, AllocError> {
+        Ok(Expression::Read(id(alloc, line, text)?))
     }
 
     fn assignment(alloc: Global, line: u32, row: &Row<'_>) -> Result<Assignment, AllocError> {
         let (_, target, first, rest) = *row;
-        let first = operand(alloc, line, rest.is_none(), first)?;
+        let first = Boxed::new(alloc, operand(alloc, line, first)?)?;
         let value = match rest {
-            None => Expression::Single(first),
+            None => Expression::Not(first),
             Some((operator, second)) => {
-                Expression::Pair(first, operator, operand(alloc, line, false, second)?)
+                let second = Boxed::new(alloc, operand(alloc, line, second)?)?;
+                Expression::Pair(first, operator, second)
             }
         };
         Ok(Assignment {
-            target: token(alloc, line, target)?,
+            target: id(alloc, line, target)?,
             value,
         })
     }
@@ -437,20 +441,18 @@ mod tests {
         clock: &str,
         after: &[Row<'_>],
     ) -> Result<Process, AllocError> {
-        let mut pieces = Vec::new(alloc);
-        pieces.push(Piece::Begin)?;
+        let mut assignments = Vec::new(alloc);
         let mut below = line.saturating_add(1);
         for row in after {
             if row.0 != Sort::Sample {
                 break;
             }
-            pieces.push(Piece::Assign(assignment(alloc, below, row)?))?;
+            assignments.push(assignment(alloc, below, row)?)?;
             below = below.saturating_add(1);
         }
-        pieces.push(Piece::End)?;
         Ok(Process {
-            clock: token(alloc, line, clock)?,
-            body: Sequence::from_vec(pieces),
+            clock: id(alloc, line, clock)?,
+            body: Sequence::from_vec(assignments),
         })
     }
 
@@ -464,7 +466,10 @@ mod tests {
         let name = row.1;
         match row.0 {
             Sort::Assign => Ok(Some(Item::Assign(assignment(alloc, line, row)?))),
-            Sort::Declare => Ok(Some(Item::Declare(token(alloc, line, name)?))),
+            Sort::Declare => Ok(Some(Item::Declare(Declaration {
+                wire: false,
+                name: id(alloc, line, name)?,
+            }))),
             Sort::Clock => Ok(Some(Item::Process(clocked(alloc, line, name, after)?))),
             Sort::Sample => Ok(None),
         }
@@ -478,7 +483,7 @@ mod tests {
         for (direction, name) in ports {
             declarations.push(PortDeclaration {
                 direction: *direction,
-                name: token(alloc, 1, name)?,
+                name: id(alloc, 1, name)?,
             })?;
         }
         Ok(Sequence::from_vec(declarations))
@@ -504,19 +509,15 @@ mod tests {
     /// What the module `top` of these ports and items is.
     fn design(
         alloc: Global,
-        top: &str,
         ports: &[Port<'_>],
         rows: &[Row<'_>],
     ) -> Result<Result<Spec, Refusal>, Fail> {
         let tree = Module {
-            name: token(alloc, 1, "top")?,
+            name: id(alloc, 1, "top")?,
             ports: port_list(alloc, ports)?,
             items: item_list(alloc, rows)?,
         };
-        if tree.ports.len() > 100 || tree.items.len() > 100 {
-            return Err("too many names")?;
-        }
-        match elaborate(alloc, top.as_bytes(), &tree) {
+        match elaborate(alloc, &tree) {
             Ok(spec) => Ok(Ok(spec)),
             Err(SourceFault::Refused(refusal)) => Ok(Err(refusal)),
             Err(SourceFault::NoMemory) => Err("no memory")?,
@@ -651,7 +652,7 @@ mod tests {
                 Some((Operator::Or, "passed")),
             ),
         ];
-        let answer = design(rt.alloc(), "top", &ports, &rows)?;
+        let answer = design(rt.alloc(), &ports, &rows)?;
         let spec = answer.ok().ok_or("no design")?;
         assert_eq!(rt; spec.vars.len(), 8);
         assert_eq!(rt; spec.drivers.len(), 5);
@@ -673,7 +674,7 @@ mod tests {
             (Sort::Sample, "mid", "in", None),
             (Sort::Sample, "out", "mid", None),
         ];
-        let answer = design(rt.alloc(), "top", &ports, &rows)?;
+        let answer = design(rt.alloc(), &ports, &rows)?;
         let spec = answer.ok().ok_or("no design")?;
         assert_eq!(rt; spec.vars.len(), 4);
         let mid = spec.vars.as_slice().get(3).ok_or("no variable")?;
@@ -702,7 +703,7 @@ mod tests {
             (Direction::In, "a"),
             (Direction::Out, "x"),
         ];
-        match design(alloc, "top", &ports, rows)? {
+        match design(alloc, &ports, rows)? {
             Ok(_) => Ok(false),
             Err(refusal) => Ok(is_refusal(&refusal, kind, line, name)),
         }
@@ -728,13 +729,9 @@ mod tests {
         assert!(rt; tells(rt.alloc(), &earlier, Kind::DuplicateName, 2, "x")?);
         assert!(rt; tells(rt.alloc(), &later, Kind::UnknownName, 2, "z")?);
         let ports = [(Direction::In, "a"), (Direction::Out, "a")];
-        match design(rt.alloc(), "top", &ports, &later)? {
+        match design(rt.alloc(), &ports, &later)? {
             Ok(_) => Err("a design")?,
             Err(refusal) => assert!(rt; is_refusal(&refusal, Kind::DuplicateName, 1, "a")),
-        }
-        match design(rt.alloc(), "other", &ports, &later)? {
-            Ok(_) => Err("a design")?,
-            Err(refusal) => assert!(rt; is_refusal(&refusal, Kind::UnknownName, 0, "other")),
         }
         Ok(())
     }
@@ -775,7 +772,7 @@ mod tests {
             (Direction::Out, "x"),
             (Direction::Out, "y"),
         ];
-        design(alloc, "top", &ports, rows)
+        design(alloc, &ports, rows)
     }
 
     #[test]

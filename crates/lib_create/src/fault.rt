@@ -1,7 +1,9 @@
 //! Why a source is no design.
 
+use expr_parser::ParseFault;
 use std::alloc::{AllocError, AllocFailed};
 use sv_base::Refusal;
+use sv_lexer::LexFault;
 
 /// Why no module, or no design, is made of a source.
 #[derive(Debug, Drop)]
@@ -30,5 +32,33 @@ impl<T: Drop> From<AllocFailed<T>> for SourceFault {
 
     fn from(_error: AllocFailed<T>) -> SourceFault {
         SourceFault::NoMemory
+    }
+}
+
+impl From<LexFault> for SourceFault {
+    ghost use Rattle.std.specs.Prelude.{◌≡◌};
+    ghost use Rattle.lib_create.specs.Faults.{lexed};
+
+    ghost from_gives = { λ error fault. fault ≡ lexed error };
+
+    fn from(error: LexFault) -> SourceFault {
+        match error {
+            LexFault::Refused(refusal) => SourceFault::Refused(refusal),
+            LexFault::NoMemory => SourceFault::NoMemory,
+        }
+    }
+}
+
+impl From<ParseFault> for SourceFault {
+    ghost use Rattle.std.specs.Prelude.{◌≡◌};
+    ghost use Rattle.lib_create.specs.Faults.{parsed};
+
+    ghost from_gives = { λ error fault. fault ≡ parsed error };
+
+    fn from(error: ParseFault) -> SourceFault {
+        match error {
+            ParseFault::Refused(refusal) => SourceFault::Refused(refusal),
+            ParseFault::NoMemory => SourceFault::NoMemory,
+        }
     }
 }

@@ -4,22 +4,20 @@
 mod bench;
 mod command;
 mod compile;
-mod draft;
 mod elaboration;
 mod fault;
 mod law;
 mod load;
+mod modules;
+mod plain_form;
 #[cfg(test)]
 mod play_tests;
 mod playing;
-mod reading;
 mod run;
 #[cfg(test)]
 mod run_tests;
 mod simulate;
-mod source;
 mod stop;
-mod token;
 mod tree;
 mod verdict;
 

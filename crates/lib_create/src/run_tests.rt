@@ -177,8 +177,14 @@ always_ff @(posedge clk) begin q <= r; begin q <= ~r; end r <= q; end endmodule"
 const INNER: &str = "module t(input logic clk, input logic d, output logic y); logic q; \
 assign y = ~q; always_ff @(posedge clk) begin begin q <= d; end end endmodule";
 
+const MARKED: &str = "`timescale 1ns/1ps\nmodule t(input logic a, output logic y); // x\n\
+/*verilator hier_block*/ assign y = ~a;\nendmodule\n";
+
+const GROUPED: &str = "module t(input logic a, input logic b, input logic c, output logic y); \
+assign y = (a & b) | ~c; endmodule";
+
 // Sources and stimuli, and the traces that they give.
-const TRACES: [(&str, &str, &str); 12] = [
+const TRACES: [(&str, &str, &str); 20] = [
     (INVERTER, "", "step a:1 y:1\n0 0 1\n"),
     (INVERTER, "d a=1", "step a:1 y:1\n0 0 1\n1 1 0\n"),
     (
@@ -235,6 +241,43 @@ d a=1 b=0 c=0\nd a=1 b=0 c=1\nd a=1 b=1 c=0\nd a=1 b=1 c=1\n",
         "d d=1\nc clk=1\nd d=0\n",
         "step clk:1 d:1 y:1\n0 0 0 1\n1 0 1 1\n2 1 1 0\n3 1 0 0\n",
     ),
+    // Comments, marks and directives change nothing.
+    (MARKED, "d a=1", "step a:1 y:1\n0 0 1\n1 1 0\n"),
+    (
+        "module t(input logic a, output logic y); /*verilator hier_block*/ assign y = ~a; endmodule",
+        "d a=1",
+        "step a:1 y:1\n0 0 1\n1 1 0\n",
+    ),
+    (
+        "module t(input logic a, output logic y); assign y = ~(~~a); endmodule",
+        "d a=1",
+        "step a:1 y:1\n0 0 1\n1 1 0\n",
+    ),
+    (
+        GROUPED,
+        "d c=1\nd a=1 b=1\nd c=0 a=0\n",
+        "step a:1 b:1 c:1 y:1\n0 0 0 0 1\n1 0 0 1 0\n2 1 1 1 1\n3 0 1 0 1\n",
+    ),
+    (
+        "module t(input logic a, input logic b, output logic y); assign y = a ^~ b; endmodule",
+        "d a=1\nd b=1\n",
+        "step a:1 b:1 y:1\n0 0 0 1\n1 1 0 0\n2 1 1 1\n",
+    ),
+    (
+        "module t(input logic a, output logic y); wire w; assign w = ~a; assign y = ~w; endmodule",
+        "d a=1",
+        "step a:1 y:1\n0 0 0\n1 1 1\n",
+    ),
+    (
+        "module t(input logic clk, input logic d, output logic q); always @(posedge clk) q <= d; endmodule",
+        "d d=1\nc clk=1\n",
+        "step clk:1 d:1 q:1\n0 0 0 0\n1 0 1 0\n2 1 1 1\n",
+    ),
+    (
+        "module t(input logic clk, input logic d, output logic q); always_ff @(posedge clk) begin end assign q = d; endmodule",
+        "d d=1\nc clk=1\n",
+        "step clk:1 d:1 q:1\n0 0 0 0\n1 0 1 1\n2 1 1 1\n",
+    ),
 ];
 
 #[test]
@@ -284,13 +327,13 @@ fn absent_files_are_told(rt: HostRuntime) -> Result<(), Fail> {
 const UNSUPPORTED: &str = "-:0: Unsupported plain\n";
 
 // Sources of which none is a legal design of the top `t`, and the message.
-const REFUSED: [(&str, &str); 28] = [
-    ("", "t.sv:0: Unexpected\n"),
-    ("\n\n", "t.sv:0: Unexpected\n"),
+const REFUSED: [(&str, &str); 49] = [
+    ("", "-:0: UnknownName t\n"),
+    ("\n\n", "-:0: UnknownName t\n"),
     ("endmodule", "t.sv:1: Unexpected endmodule\n"),
     (
         "module t(input logic a, output logic y);\nassign y = a +;\nendmodule",
-        "t.sv:2: Unexpected +\n",
+        "t.sv:2: Unexpected ;\n",
     ),
     (
         "module t(input logic a, output logic y);\nassign y = b;\nendmodule",
@@ -302,11 +345,11 @@ const REFUSED: [(&str, &str); 28] = [
     ),
     (
         "module t(input logic a, output logic y); initial y = 0; endmodule",
-        "t.sv:1: Unexpected initial\n",
+        "t.sv:1: Unsupported initial\n",
     ),
     (
         "module t(input logic a, output logic y); assign y <= a; endmodule",
-        "t.sv:1: Unexpected\n",
+        "t.sv:1: Unexpected <=\n",
     ),
     (
         "module t(input logic a, output logic y); # endmodule",
@@ -318,7 +361,7 @@ const REFUSED: [(&str, &str); 28] = [
     ),
     (
         "module t(input logic a, output logic y);\nalways_ff @(negedge a) y <= a;\nendmodule",
-        "t.sv:2: Unexpected negedge\n",
+        UNSUPPORTED,
     ),
     (
         "module t(input logic a, output logic y); always_ff @(posedge a) begin endmodule",
@@ -386,6 +429,84 @@ const REFUSED: [(&str, &str); 28] = [
     ),
     (
         "module t(input logic k, input logic a, output logic y); always_ff @(posedge k) begin y <= a; a <= y; end endmodule",
+        UNSUPPORTED,
+    ),
+    (
+        "module t(input logic a, output logic y);\n/* open",
+        "t.sv:2: OpenComment\n",
+    ),
+    (
+        "module t(input logic a, output logic y);\n`include",
+        "t.sv:2: Unsupported include\n",
+    ),
+    (
+        "module t(input logic a, output logic y);\n#",
+        "t.sv:2: Unexpected #\n",
+    ),
+    (
+        "module t(input logic a, output logic y);\ninitial y = 0;",
+        "t.sv:2: Unsupported initial\n",
+    ),
+    ("/*verilator hier_block*/", "-:0: UnknownName t\n"),
+    (
+        "module t(input logic a, output logic y); assign y = ~a; endmodule\nmodule t; endmodule",
+        "t.sv:2: DuplicateName t\n",
+    ),
+    (
+        "module t(input logic a, output logic y); assign y = ~a; endmodule\nmodule u; endmodule",
+        UNSUPPORTED,
+    ),
+    (
+        "module t(input logic [1:0] a, output logic y); assign y = ~a; endmodule",
+        UNSUPPORTED,
+    ),
+    (
+        "module t #(parameter N = 1)(input logic a, output logic y); assign y = ~a; endmodule",
+        UNSUPPORTED,
+    ),
+    (
+        "module t(input wire a, output logic y); assign y = ~a; endmodule",
+        UNSUPPORTED,
+    ),
+    ("module t; endmodule", UNSUPPORTED),
+    (
+        "module t(input logic a, output logic y); reg r; assign y = ~a; endmodule",
+        UNSUPPORTED,
+    ),
+    (
+        "module t(input logic a, output logic y); logic r, s; assign y = ~a; endmodule",
+        UNSUPPORTED,
+    ),
+    (
+        "module t(input logic a, output logic y); ; assign y = ~a; endmodule",
+        UNSUPPORTED,
+    ),
+    (
+        "module t(input logic a, output logic y); assign y[0] = a; endmodule",
+        UNSUPPORTED,
+    ),
+    (
+        "module t(input logic a, output logic y); assign y = a[0]; endmodule",
+        UNSUPPORTED,
+    ),
+    (
+        "module t(input logic a, output logic y); assign y = 1'b0; endmodule",
+        UNSUPPORTED,
+    ),
+    (
+        "module t(input logic a, output logic y); assign y = a && a; endmodule",
+        UNSUPPORTED,
+    ),
+    (
+        "module t(input logic k, input logic a, output logic y); always_ff @(posedge k) if (a) y <= a; endmodule",
+        UNSUPPORTED,
+    ),
+    (
+        "module t(input logic k, input logic a, output logic y); always_ff @(posedge k) y = a; endmodule",
+        UNSUPPORTED,
+    ),
+    (
+        "module t(input logic k, input logic a, output logic y); always_ff @(posedge k) begin : b y <= a; end endmodule",
         UNSUPPORTED,
     ),
 ];
@@ -499,7 +620,7 @@ fn faults_are_told(rt: HostRuntime) -> Result<(), Fail> {
 // The words and files, the call of `err` that fails, and what is given.
 const UNWRITTEN: [(&str, &str, &str, &[u64], (u8, &str, &str)); 4] = [
     ("-", INVERTER, "", &[1], (8, "", "")),
-    ("t.sv", "", "", &[2], (8, "", "t.sv:0")),
+    ("t.sv", "endmodule", "", &[2], (8, "", "t.sv:1")),
     (
         "t.sv",
         INVERTER,
@@ -575,5 +696,28 @@ fn a_chain_of_1000_inverters_alternates(rt: HostRuntime) -> Result<(), Fail> {
     assert_eq!(rt; got.status, 0);
     assert!(rt; got.out.ends_with(last.as_slice()));
     assert!(rt; got.err.is_empty());
+    Ok(())
+}
+
+// So many modules on as many lines, named by their numbers.
+fn many_modules(alloc: Global, count: u32) -> Result<String, AllocError> {
+    let mut text = String::new(alloc);
+    for i in 0..count {
+        let module = format!(in alloc; "module m{i}; endmodule\n")?;
+        text.push_str(module.as_str())?;
+    }
+    Ok(text)
+}
+
+#[test]
+fn source_has_at_most_1024_modules(rt: HostRuntime) -> Result<(), Fail> {
+    let order = Order::new(|_, _| 0);
+    let unknown = (3, "", "-:0: UnknownName t\n");
+    let many = (3, "", "t.sv:1025: TooMany modules\n");
+    for (count, wanted) in [(1024, unknown), (1025, many), (1026, many)] {
+        let source = many_modules(rt.alloc(), count)?;
+        let files = [("t.sv", source.as_str()), ("s.txt", "")];
+        gives(&rt, &SIM, &files, no_fault(1000), &order, wanted)?;
+    }
     Ok(())
 }

@@ -34,8 +34,7 @@ pub fn simulate<'a, D: Folder, K: Sink>(
     ensures no_write { D.write_faults folder.new ≡ D.write_faults folder.old }
     ensures out_later { K.faults out.old ≤ K.faults out.new }
 {
-    law::one_module();
-    law::one_outside();
+    law::one_source();
     let sim = match read_words(words) {
         Err(misuse) => return Ok(Verdict::Misused(misuse)),
         Ok(sim) => sim,

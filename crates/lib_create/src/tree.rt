@@ -1,7 +1,8 @@
-//! The tree of the first grammar: one module of one-bit ports and variables, with continuous assignments and clocked
-//! processes.
+//! The tree of what can be elaborated so far: one module of one-bit ports, variables and wires, with continuous assignments
+//! and clocked processes.
 
-use crate::token::Token;
+use sqlite_items::Boxed;
+use sv_ast::Id;
 use sv_base::Sequence;
 
 #[derive(Clone, Copy, Debug, PartialEq, Eq)]
@@ -18,60 +19,52 @@ pub enum Operator {
     Xor,
 }
 
-/// A name that is read, with or without `~` before it.
-#[derive(Debug, Drop)]
-pub struct Operand {
-    pub negated: bool,
-    pub name: Token,
-}
-
-#[derive(Debug, Drop)]
+/// A name that is read, `~` of an expression, or an operator with two.
+#[derive(Drop)]
 pub enum Expression {
-    Single(Operand),
-    Pair(Operand, Operator, Operand),
+    Read(Id),
+    Not(Boxed<Expression>),
+    Pair(Boxed<Expression>, Operator, Boxed<Expression>),
 }
 
 #[derive(Debug, Drop)]
 pub struct PortDeclaration {
     pub direction: Direction,
-    pub name: Token,
+    pub name: Id,
 }
 
-/// A target and its value, of a continuous assignment (10.3) or of a nonblocking one.
+/// A variable (6.8) or a wire (6.6) of one bit that only the module sees.
 #[derive(Debug, Drop)]
+pub struct Declaration {
+    pub wire: bool,
+    pub name: Id,
+}
+
+/// A target and its value, of a continuous assignment (10.3) or of a nonblocking one (10.4.2).
+#[derive(Drop)]
 pub struct Assignment {
-    pub target: Token,
+    pub target: Id,
     pub value: Expression,
 }
 
-/// A piece of the statement of a clocked process: a nonblocking assignment (10.4.2), or the beginning or the end of a
-/// block.
-#[derive(Debug, Drop)]
-pub enum Piece {
-    Begin,
-    End,
-    Assign(Assignment),
-}
-
-/// A clocked process (9.2.2.4) at the rising edge of `clock`, and its statement piece by piece.
-#[derive(Debug, Drop)]
+/// A clocked process (9.2.2.4) at the rising edge of `clock`, and its assignments in the order of the text.
+#[derive(Drop)]
 pub struct Process {
-    pub clock: Token,
-    pub body: Sequence<Piece>,
+    pub clock: Id,
+    pub body: Sequence<Assignment>,
 }
 
-#[derive(Debug, Drop)]
+#[derive(Drop)]
 pub enum Item {
     Assign(Assignment),
-    /// A variable of one bit that only the module sees (6.8).
-    Declare(Token),
+    Declare(Declaration),
     Process(Process),
 }
 
 /// A module, its ports and its items in the order of the text.
-#[derive(Debug, Drop)]
+#[derive(Drop)]
 pub struct Module {
-    pub name: Token,
+    pub name: Id,
     pub ports: Sequence<PortDeclaration>,
     pub items: Sequence<Item>,
 }

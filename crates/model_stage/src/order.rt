@@ -18,11 +18,12 @@ impl<F: Fn(u32, u32) -> u32 + Drop> Order<F> {
         Order { f }
     }
 
-    /// The place of the next child among `left` children that are not yet visited.
+    /// The place of the next child among `left` children that are not yet visited, as the closure answers it.
     pub fn pick(&self, sweep: u32, left: u32) -> u32
         requires order { Picks (F.pre self.now.f) (F.post self.now.f) }
         requires some { 0 < left }
-        ensures { result < left }
+        ensures less { result < left }
+        ensures asked { F.post self.now.f sweep left result }
     {
         (self.f)(sweep, left)
     }

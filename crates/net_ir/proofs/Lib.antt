@@ -12,3 +12,4 @@ pub mod Idle
 pub mod Marking
 pub mod Turns
 pub mod PlainClocks
+pub mod PlainNets

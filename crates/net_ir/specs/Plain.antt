@@ -18,7 +18,8 @@ use Rattle.net_ir.specs.declared.design.Driver.{Driver}
 use Rattle.net_ir.specs.declared.design.Driver.TheVariants.{Assign, Clocked}
 use Rattle.net_ir.specs.declared.design.Spec.{Spec}
 use Rattle.net_ir.specs.Value.{widths_of, size}
-use Rattle.net_ir.specs.Drive.{writes, depends_on, NoneDrives, NoneWrites}
+use Rattle.net_ir.specs.Statement.{targets_of}
+use Rattle.net_ir.specs.Drive.{target_var, writes, depends_on, NoneDrives, NoneWrites}
 use Rattle.net_ir.specs.Face.{stands_in, all_reads}
 
 -- one layer of a lawful term: a read names a variable that is there, an operation has the operands of its row
@@ -86,14 +87,25 @@ abbrev pub HasPlainClocks : Spec → Driver → Type 0
 HasPlainClocks spec (Assign target value place) = ⊤
 HasPlainClocks spec (Clocked triggers body place) = AllByRecursion (λ (t : Trigger). IsPlainTrigger spec t.var) triggers
 
+-- a name means no net: what it names is no wire
+abbrev pub NamesNoNet : List Var → Option ℕ → Type 0
+NamesNoNet vars None = ⊤
+NamesNoNet vars (Some x) = (v : Var) → slice_get vars x ≡ Some v → v.wire ≡ false
+
+-- a clocked process assigns to variables alone, no nets (IEEE 1800-2017, 6.5 and 10.4)
+abbrev pub WritesNoNet : List Var → Driver → Type 0
+WritesNoNet vars (Assign target value place) = ⊤
+WritesNoNet vars (Clocked triggers body place) = AllByRecursion (λ (t : Target). NamesNoNet vars (target_var t)) (targets_of body)
+
 -- each variable has an initial value of its width
 abbrev pub HaveInitialValues : List Var → Type 0
 HaveInitialValues vars = AllByRecursion (λ v. v.init.width ≡ v.width) vars
 
--- the drivers can be taken in the order of the text, and clocks are apart from what expressions read
+-- the drivers can be taken in the order of the text, clocks are apart from what expressions read, and no process writes a net
 pub record IsPlain (spec : Spec) : Type 0 where
   pub vars : HaveInitialValues spec.vars
   pub whole : AllByRecursion (IsWhole (widths_of spec.vars)) spec.drivers
   pub inner : AllByRecursion (SparesInputs spec.vars) spec.drivers
   pub ordered : AreOrdered (widths_of spec.vars) spec.drivers
   pub clocks : AllByRecursion (HasPlainClocks spec) spec.drivers
+  pub nets : AllByRecursion (WritesNoNet spec.vars) spec.drivers

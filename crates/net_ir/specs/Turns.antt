@@ -1,6 +1,6 @@
 -- Drivers from the last to the first, with a mark for each variable that a later one writes, and another for each that a later
 -- one gives at all times.
-use Rattle.std.specs.Prelude.{ℕ, Bool, false, not, ◌&&◌, List, [], Option, None, Some, slice_get}
+use Rattle.std.specs.Prelude.{ℕ, Bool, true, false, not, ◌&&◌, List, [], Option, None, Some, slice_get}
 use Rattle.std.specs.List.{list_all}
 use Rattle.net_ir.specs.declared.design.Var.{Var}
 use Rattle.net_ir.specs.declared.design.Target.{Target}
@@ -48,3 +48,22 @@ driven_by (Clocked triggers body at) = []
 abbrev pub takes_turn : List Var → Driver → List Bool → List Bool → Bool
 takes_turn vars (Assign target value at) written driven = is_free_at vars written (target_var target) && are_clear (mark_all (var_list (target_var target)) driven) (reads_of value)
 takes_turn vars (Clocked triggers body at) written driven = are_free vars written (targets_of body)
+
+-- whether a variable, if it is there, is a net
+abbrev pub net_if : Option Var → Bool
+net_if None = false
+net_if (Some v) = v.wire
+
+-- whether a name means no net
+abbrev pub names_no_net : List Var → Option ℕ → Bool
+names_no_net vars None = true
+names_no_net vars (Some x) = not (net_if (slice_get vars x))
+
+-- whether none of the targets names one
+abbrev pub name_no_nets : List Var → List Target → Bool
+name_no_nets vars targets = list_all (λ t. names_no_net vars (target_var t)) targets
+
+-- whether a driver is no clocked process that writes one
+abbrev pub writes_no_net : List Var → Driver → Bool
+writes_no_net vars (Assign target value at) = true
+writes_no_net vars (Clocked triggers body at) = name_no_nets vars (targets_of body)

@@ -19,3 +19,6 @@ pub use plain::is_plain;
 pub use sampling::sample;
 pub use statement::Stmt;
 pub use term::Term;
+
+#[cfg(test)]
+mod tests;

@@ -5,9 +5,9 @@ ghost use Rattle.std.specs.List.{AllByRecursion};
 ghost use Rattle.net_ir.specs.Value.{widths_of, reads_of};
 ghost use Rattle.net_ir.specs.Statement.{targets_of};
 ghost use Rattle.net_ir.specs.Drive.{target_var};
-ghost use Rattle.net_ir.specs.Plain.{HaveInitialValues, IsWhole, SparesInputs, AreOrdered, HasPlainClocks, IsPlain};
+ghost use Rattle.net_ir.specs.Plain.{HaveInitialValues, IsWhole, SparesInputs, AreOrdered, HasPlainClocks, WritesNoNet, IsPlain};
 ghost use Rattle.net_ir.specs.Marks.{mark_all, is_input, is_clock, are_clocks, has_clocks};
-ghost use Rattle.net_ir.specs.Turns.{is_free, is_free_at, are_free, are_clear, written_by, driven_by, takes_turn};
+ghost use Rattle.net_ir.specs.Turns.{is_free, is_free_at, are_free, are_clear, written_by, driven_by, takes_turn, names_no_net, name_no_nets, writes_no_net};
 
 use crate::design::{Driver, Role, Spec, Target, Trigger, Var};
 use crate::marks::{is_clear, mark_target, mark_targets, read_marks};
@@ -16,14 +16,17 @@ use crate::term::Term;
 use std::alloc::{AllocError, Global};
 
 /// Whether a design of whole assignments is plain: no bit has two drivers, no driver writes an input, no assignment reads
-/// what it or a later one writes, and each event control names an input of one bit that no expression reads. The work is
-/// linear in the design.
+/// what it or a later one writes, each event control names an input of one bit that no expression reads, and no clocked
+/// process writes a net (IEEE 1800-2017, 6.5 and 10.4). The work is linear in the design.
 pub fn is_plain(alloc: Global, spec: &Spec) -> Result<bool, AllocError>
     requires vars { HaveInitialValues spec.now.vars }
     requires whole { AllByRecursion (IsWhole (widths_of spec.now.vars)) spec.now.drivers }
     ensures { IfOk result (λ yes. IsTrue yes ↔ IsPlain spec.now) }
 {
     if !can_be_taken_in_order(alloc, spec)? {
+        return Ok(false);
+    }
+    if !write_no_nets(spec) {
         return Ok(false);
     }
     have_clocks(alloc, spec)
@@ -133,6 +136,59 @@ fn is_unread(term: &Term, marks: &[bool]) -> bool
             }
             true
         }
+    }
+}
+
+/// Whether no clocked process writes a net.
+fn write_no_nets(spec: &Spec) -> bool
+    ensures { IsTrue result ↔ AllByRecursion (WritesNoNet spec.now.vars) spec.now.drivers }
+{
+    let vars = spec.vars.as_slice();
+    for driver in spec.drivers.as_slice() {
+        if !writes_no_net(driver, vars) {
+            return false;
+        }
+    }
+    true
+}
+
+/// Whether a driver is no clocked process that writes a net. Continuous assignments may write nets and variables.
+fn writes_no_net(driver: &Driver, vars: &[Var]) -> bool
+    ensures { result ≡ writes_no_net vars.now driver.now }
+{
+    match driver {
+        Driver::Assign { .. } => true,
+        Driver::Clocked { body, .. } => name_no_nets(body, vars),
+    }
+}
+
+/// Whether no target of a statement names a net.
+fn name_no_nets(statement: &Stmt, vars: &[Var]) -> bool
+    ensures { result ≡ name_no_nets vars.now (targets_of statement.now) }
+{
+    match statement {
+        Stmt::Block(parts) => {
+            for part in parts.as_slice() {
+                if !name_no_nets(part, vars) {
+                    return false;
+                }
+            }
+            true
+        }
+        Stmt::Assign { target, .. } => names_no_net(target, vars),
+    }
+}
+
+/// Whether a target names no net.
+fn names_no_net(target: &Target, vars: &[Var]) -> bool
+    ensures { result ≡ names_no_net vars.now (target_var target.now) }
+{
+    match target.var() {
+        Some(var) => match vars.get(var as usize) {
+            Some(var) => !var.wire,
+            None => true,
+        },
+        None => true,
     }
 }
 

@@ -1,10 +1,7 @@
-use Rattle.std.proofs.Common.{◌≡◌, [], drop, length}
+use Rattle.std.proofs.Common.{◌≡◌, [], drop}
 use Rattle.lib_create.specs.Elaborating.{walk, port_at}
 use Rattle.lib_create.proofs.elaboration.ports.Given as goal
 
--- there are as many variables as ports before this one, and the ports that are left give what all do
+-- the ports that are left give what all do
 abbrev pub invariant-loop-port : goal.invariant-loop-port
-invariant-loop-port l = record {
-  counted : length l.scope.vars.items ≡ l.port-index;
-  walked : walk port_at l.scope.vars.items (drop l.port-index l.ports) ≡ walk port_at [] l.ports;
-}
+invariant-loop-port l = walk port_at l.scope.vars.items (drop l.port-index l.ports) ≡ walk port_at [] l.ports

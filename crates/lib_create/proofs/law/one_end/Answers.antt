@@ -2,4 +2,4 @@ use Rattle.lib_create.proofs.Ending.{end_once}
 use Rattle.lib_create.proofs.law.one_end.Goals as goal
 
 pub returns : goal.returns
-returns c = end_once c.one_trace.ensures (record { modules = c.one_module.ensures; outside = c.one_outside.ensures.once; apart = c.one_outside.ensures.apart })
+returns c = end_once c.one_trace.ensures (record { trees = c.one_source.ensures.trees; refusals = c.one_source.ensures.refusals; apart = c.one_source.ensures.apart })

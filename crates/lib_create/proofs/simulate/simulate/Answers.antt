@@ -18,6 +18,6 @@ pub returns-in-Err-run_design-clause-cut : goal.returns-in-Err-run_design-clause
 returns-in-Err-run_design-clause-cut g c =
     design_cut_told (g.D.Folder.content c.args.folder.now) (g.D.Folder.content c.compile.new.folder) (map string_bytes c.args.words.now)
     (sim_seen c.in-Ok.sim) c.in-Ok-Design.field-0 c.in-Ok-Design.spec (g.K.Sink.written c.args.out.now) (g.K.Sink.written c.run_design.new.out)
-    (record { modules = c.one_module.ensures; outside = c.one_outside.ensures.once; apart = c.one_outside.ensures.apart })
+    (record { trees = c.one_source.ensures.trees; refusals = c.one_source.ensures.refusals; apart = c.one_source.ensures.apart })
     c.in-Ok.ensures c.in-Ok-Design.ensures.unchanged c.in-Ok-Design.ensures.compiled c.in-Ok-Design.field-0-is
     c.in-Err-run_design.ensures.cut

@@ -1,0 +1,31 @@
+use Rattle.std.proofs.Common.{sym, subst}
+use Rattle.std.proofs.lemmas.Result.{err_from_is_err_and}
+use Rattle.sv_lexer.specs.Cutting.{IsTokens}
+use Rattle.module_parser.specs.Outcome.{IsRead}
+use Rattle.lib_create.proofs.Compiled.{lexer_refuses, parser_refuses, designed, undesigned}
+use Rattle.lib_create.proofs.compile.design.Goals as goal
+
+pub returns-in_err-tokens-clause-refused : goal.returns-in_err-tokens-clause-refused
+returns-in_err-tokens-clause-refused c =
+    let p = err_from_is_err_and c.from_residual.result c.from_residual.ensures.1 in
+    rw (p.1) (lexer_refuses c.args.top.now c.args.bytes.now c.in_err-tokens.field-0.0 p.0 c.requires.short p.2 c.in_err-tokens.ensures.refused)
+
+pub returns-in_err-modules-clause-refused : goal.returns-in_err-modules-clause-refused
+returns-in_err-modules-clause-refused c =
+    let p = err_from_is_err_and c.from_residual-in_err-modules.result c.from_residual-in_err-modules.ensures.1 in
+    rw (p.1) (parser_refuses c.args.top.now c.args.bytes.now c.into_vec-tokens.result.items c.in_err-modules.field-0.0 p.0 c.requires.short
+    (subst (IsTokens 1 c.args.bytes.now) (sym c.into_vec-tokens.ensures) c.in_ok-tokens.ensures.tokens) p.2 c.in_err-modules.ensures.refused)
+
+pub returns-clause-design : goal.returns-clause-design
+returns-clause-design c =
+    designed c.args.top.now c.args.bytes.now c.into_vec-tokens.result.items c.as_slice.result.now c.design_of_modules.result c.requires.short
+    (subst (IsTokens 1 c.args.bytes.now) (sym c.into_vec-tokens.ensures) c.in_ok-tokens.ensures.tokens)
+    (subst (IsRead c.into_vec-tokens.result.items) (sym c.as_slice.ensures.value) c.in_ok-modules.ensures.read)
+    c.design_of_modules.ensures.design
+
+pub returns-clause-refused : goal.returns-clause-refused
+returns-clause-refused c =
+    undesigned c.args.top.now c.args.bytes.now c.into_vec-tokens.result.items c.as_slice.result.now c.design_of_modules.result c.requires.short
+    (subst (IsTokens 1 c.args.bytes.now) (sym c.into_vec-tokens.ensures) c.in_ok-tokens.ensures.tokens)
+    (subst (IsRead c.into_vec-tokens.result.items) (sym c.as_slice.ensures.value) c.in_ok-modules.ensures.read)
+    c.design_of_modules.ensures.refused
