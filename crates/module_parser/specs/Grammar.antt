@@ -516,7 +516,7 @@ abbrev pub header_ports : Rule (List PortDecl)
 header_ports =
     when (is_this (codes "(")) (parenthesised (when (is_no_sign (codes ")")) ports (give []))) (give [])
 
--- the items up to `endmodule`, and whether a mark stands before or among them
+-- the items up to `endmodule`, and whether a mark stands between the `;` of the header and `endmodule`
 abbrev pub body : Rule (List Item × Bool)
 body = watched (do
   items ← many (is_no_keyword (codes "endmodule")) (λ _. item_of)

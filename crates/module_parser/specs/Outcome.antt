@@ -88,8 +88,8 @@ abbrev pub IsFaultOf : List Token → ParseFault → Type 0
 IsFaultOf tokens (fault.Refused refusal) = IsRefused tokens refusal
 IsFaultOf tokens fault.NoMemory = Unit {0}
 
--- Modules that can be written: their texts are spellings that may stand where they stand, and each list is one that the
--- grammar has there.
+-- Modules that some file gives whose tokens are spelled as the lexer spells them, so that each name in them is an identifier
+-- and each list is one that the grammar has in its place.
 pub record AreWritten (modules : List Module) : Type 0 where
   pub tokens : List Token
   pub spelled : AreSpelled tokens

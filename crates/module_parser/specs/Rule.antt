@@ -8,7 +8,7 @@ use Rattle.expr_parser.specs.Grammar.{Phrase, IsPhrase, tokens_of, tree_of, id_o
 use Rattle.expr_parser.specs.Nesting.{nesting}
 use Rattle.expr_parser.specs.Outcome.{NoneGoesOn, grammar_tokens}
 
--- a token of the grammar, the marks before it, and the open nesting at it
+-- a token of the grammar, the marks before it, and the nesting that the rule itself has open at it
 pub record Piece : Type 0 where
   pub marks : List Token
   pub token : Token
