@@ -21,6 +21,3 @@ mod words;
 pub use header::{entry_keyword, entry_shape, port_direction, port_shape};
 pub use law::{not_both, one_file, one_reading, one_refusal};
 pub use parser::parse_file;
-
-#[cfg(test)]
-mod tests;

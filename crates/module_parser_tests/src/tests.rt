@@ -1,6 +1,5 @@
-use crate::header::{entry_keyword, entry_shape, port_direction, port_shape};
-use crate::parse_file;
 use expr_parser::ParseFault;
+use module_parser::{entry_keyword, entry_shape, parse_file, port_direction, port_shape};
 use std::alloc::{AllocError, Global};
 use std::process::Abort;
 use std::test::Fail;
