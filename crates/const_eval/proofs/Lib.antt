@@ -1,0 +1,11 @@
+pub mod Powers
+pub mod Spelling
+pub mod Naming
+pub mod Joining
+pub mod Places
+pub mod Matching
+pub mod Counts
+pub mod Selecting
+pub mod Judging
+pub mod Parts
+pub mod Opened

@@ -1,0 +1,91 @@
+-- What is taken of a constant agrees with its select.
+use Rattle.std.proofs.Common.{◌≡◌, ℕ, ◌≤◌, ℤ, pos, Bool, true, false, Result, Ok, Err, nat_lt, refl, subst, arith}
+use Rattle.std.specs.Prelude.{int_lt, unsigned_abs}
+use Rattle.std.proofs.lemmas.Bool.{ltb-false}
+use Rattle.bit_ops.specs.Width.{IsWidth}
+use Rattle.bit_ops.specs.declared.value.TheConstants.{MAX_WIDTH}
+use Rattle.sv_base.specs.declared.kind.Kind.TheVariants.{BadRange}
+use Rattle.sv_base.specs.declared.refusal.Place.{Place}
+use Rattle.sv_base.specs.declared.refusal.Refusal.{Refusal}
+use Rattle.sv_ast.specs.declared.expression.Id.{Id}
+use Rattle.const_eval.specs.declared.env.Const.{Const}
+use Rattle.const_eval.specs.declared.fault.ConstFault.{ConstFault}
+use Rattle.const_eval.specs.declared.fault.ConstFault.TheVariants.{Refused, NoMemory}
+use Rattle.const_eval.specs.declared.measured.Measured.{Measured}
+use Rattle.const_eval.specs.declared.taking.Taking.{Taking}
+use Rattle.const_eval.specs.declared.taking.Taking.TheVariants as taking
+use Rattle.const_eval.specs.Meaning.{Meaning}
+use Rattle.const_eval.specs.Selects.{Named, part}
+use Rattle.const_eval.specs.Constant.{constant_named}
+use Rattle.const_eval.specs.Expressions.{Positions, At, DownTo, UpFrom, DownFrom, as_width, refused_at, taken, take, ◌>>=◌}
+use Rattle.const_eval.specs.Agreeing.{Agrees, Matches, ArePositions, place_of}
+use Rattle.const_eval.proofs.Counts.{counted}
+
+-- a width that was found is that of a value
+pub width_fits : (below : Refusal) (place : Place) (z : ℤ) (w : ℕ) → Agrees {X = ℕ} {Y = ℕ} (λ w n. w ≡ n) (Ok w) (as_width below place z) → IsWidth w
+width_fits below place z w h = go (int_lt z (pos 1)) refl (nat_lt MAX_WIDTH (unsigned_abs z)) refl
+  where
+    go : (less : Bool) → int_lt z (pos 1) ≡ less → (more : Bool) → nat_lt MAX_WIDTH (unsigned_abs z) ≡ more → IsWidth w
+    go true e more f = absurd (rw e at h)
+    go false e true f = absurd (rw (e, f) at h)
+    go false e false f =
+        let same : w ≡ unsigned_abs z = rw (e, f) at h in
+        let most : unsigned_abs z ≤ MAX_WIDTH = ltb-false MAX_WIDTH (unsigned_abs z) f in
+        (omega (arith, counted z e), omega arith)
+
+-- bits of a width that was found
+pub taken_holds : (place : Place) (z : ℤ) (position : ℕ → ℤ) (c : Const) (low : ℕ) (name : Id) (w : ℕ) (m : Measured)
+    → Agrees {X = ℕ} {Y = ℕ} (λ w n. w ≡ n) (Ok w) (as_width (refused_at BadRange name) place z) → Matches m (part (constant_named c low) (position w) w)
+    → Agrees Matches (Ok m) (taken place z position (constant_named c low) name)
+taken_holds place z position c low name w m h matches = go (as_width (refused_at BadRange name) place z) h
+  where
+    go : (r : Result ℕ Refusal) → Agrees {X = ℕ} {Y = ℕ} (λ w n. w ≡ n) (Ok w) r → Agrees Matches (Ok m) (r >>= λ w. Ok (part (constant_named c low) (position w) w))
+    go (Ok n) e = subst (λ (k : ℕ). Matches m (part (constant_named c low) (position k) k)) e matches
+    go (Err refusal) e = absurd e
+
+-- a width that was not found
+pub taken_fails : (place : Place) (z : ℤ) (position : ℕ → ℤ) (c : Const) (low : ℕ) (name : Id) (fault : ConstFault)
+    → Agrees {X = ℕ} {Y = ℕ} (λ w n. w ≡ n) (Err fault) (as_width (refused_at BadRange name) place z)
+    → Agrees Matches (Err fault) (taken place z position (constant_named c low) name)
+taken_fails place z position c low name fault h = go (as_width (refused_at BadRange name) place z) fault h
+  where
+    go : (r : Result ℕ Refusal) (f : ConstFault) → Agrees {X = ℕ} {Y = ℕ} (λ w n. w ≡ n) (Err f) r → Agrees Matches (Err f) (r >>= λ w. Ok (part (constant_named c low) (position w) w))
+    go (Ok n) (Refused told) e = absurd e
+    go (Ok n) NoMemory e = e
+    go (Err refusal) f e = e
+
+-- a part from one position down to another
+pub of_down_to : (t : Taking) (place : Place) (a b : Measured) → t ≡ taking.DownTo place a b → (result : Result Measured ConstFault) (named : Named) (name : Id)
+    → ((high low : Meaning) → Matches a high → Matches b low → Agrees Matches result (take place (DownTo high low) named name))
+    → (positions : Positions) → ArePositions t positions → Agrees Matches result (take (place_of t) positions named name)
+of_down_to t place a b e result named name k positions h = rw e (go positions (rw e at h))
+  where
+    go : (p : Positions) → ArePositions (taking.DownTo place a b) p → Agrees Matches result (take place p named name)
+    go (DownTo high low) r = k high low r.0 r.1
+    go (At p) r = absurd r
+    go (UpFrom p width) r = absurd r
+    go (DownFrom p width) r = absurd r
+
+-- a part of a width from a position up
+pub of_up_from : (t : Taking) (place : Place) (a b : Measured) → t ≡ taking.UpFrom place a b → (result : Result Measured ConstFault) (named : Named) (name : Id)
+    → ((p width : Meaning) → Matches a p → Matches b width → Agrees Matches result (take place (UpFrom p width) named name))
+    → (positions : Positions) → ArePositions t positions → Agrees Matches result (take (place_of t) positions named name)
+of_up_from t place a b e result named name k positions h = rw e (go positions (rw e at h))
+  where
+    go : (p : Positions) → ArePositions (taking.UpFrom place a b) p → Agrees Matches result (take place p named name)
+    go (UpFrom p width) r = k p width r.0 r.1
+    go (At p) r = absurd r
+    go (DownTo high low) r = absurd r
+    go (DownFrom p width) r = absurd r
+
+-- a part of a width from a position down
+pub of_down_from : (t : Taking) (place : Place) (a b : Measured) → t ≡ taking.DownFrom place a b → (result : Result Measured ConstFault) (named : Named) (name : Id)
+    → ((p width : Meaning) → Matches a p → Matches b width → Agrees Matches result (take place (DownFrom p width) named name))
+    → (positions : Positions) → ArePositions t positions → Agrees Matches result (take (place_of t) positions named name)
+of_down_from t place a b e result named name k positions h = rw e (go positions (rw e at h))
+  where
+    go : (p : Positions) → ArePositions (taking.DownFrom place a b) p → Agrees Matches result (take place p named name)
+    go (DownFrom p width) r = k p width r.0 r.1
+    go (At p) r = absurd r
+    go (DownTo high low) r = absurd r
+    go (UpFrom p width) r = absurd r

@@ -1,0 +1,9 @@
+pub mod Literal
+pub mod Meaning
+pub mod Operators
+pub mod Selects
+pub mod Expressions
+pub mod Constant
+pub mod Waiting
+pub mod Signs
+pub mod Agreeing

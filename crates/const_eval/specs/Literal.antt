@@ -1,0 +1,63 @@
+-- What the texts of numbers and fills mean.
+use Rattle.std.specs.Prelude.{ℕ, ◌+◌, ◌%◌, ◌^◌, Bool, true, false, ◌&&◌, ◌||◌, ◌==◌, nat_lt, nat_le, if◌then◌else◌, List, [], ◌∷◌, take, drop, position, Option, None, Some, codes}
+use Rattle.std.specs.Str.{bytes_eq}
+use Rattle.bit_ops.specs.declared.value.TheConstants.{MAX_WIDTH}
+use Rattle.sv_lexer.specs.Bytes.{spelled}
+
+-- what a number means: how many bits it has, whether it is signed, and its bits as an unsigned number
+pub record Literal : Type 0 where
+  pub size : ℕ
+  pub signed : Bool
+  pub word : ℕ
+
+-- how many digits a base has, by its letter in either case (5.7.1)
+abbrev pub radix_of : ℕ → Option ℕ
+radix_of letter =
+    if letter == 98 || letter == 66 then Some 2 else (if letter == 111 || letter == 79 then Some 8
+    else (if letter == 100 || letter == 68 then Some 10 else (if letter == 104 || letter == 72 then Some 16 else None)))
+
+-- a width that a value may have
+abbrev pub is_width : ℕ → Bool
+is_width w = nat_le 1 w && nat_le w MAX_WIDTH
+
+-- digits of a radix cut to a size, where a value may have that size and a word of 64 bits holds their number
+abbrev pub cut_to : ℕ → Bool → ℕ → List ℕ → Option Literal
+cut_to size signed radix digits =
+    if is_width size && nat_lt (spelled radix digits) (2 ^ 64)
+    then Some (record { size = size; signed = signed; word = spelled radix digits % 2 ^ size }) else None
+
+abbrev pub with_radix : ℕ → Bool → Option ℕ → List ℕ → Option Literal
+with_radix size signed None digits = None
+with_radix size signed (Some radix) digits = cut_to size signed radix digits
+
+-- a number of a size, by its base letter and its digits
+abbrev pub with_base : ℕ → Bool → List ℕ → Option Literal
+with_base size signed [] = None
+with_base size signed (letter ∷ digits) = with_radix size signed (radix_of letter) digits
+
+-- `s` in either case, which stands before the base letter of a signed number
+abbrev pub is_sign_letter : ℕ → Bool
+is_sign_letter b = b == 115 || b == 83
+
+-- what stands behind the `'` of a number of a size
+abbrev pub behind_quote : ℕ → List ℕ → Option Literal
+behind_quote size [] = None
+behind_quote size (b ∷ bs) = if is_sign_letter b then with_base size true bs else with_base size false (b ∷ bs)
+
+-- the size that the digits before a `'` say: 32 where there are none
+abbrev pub size_of : List ℕ → ℕ
+size_of [] = 32
+size_of (b ∷ bs) = spelled 10 (b ∷ bs)
+
+-- a number with its first `'` at a place, or a decimal number, which is signed and has 32 bits
+abbrev pub number_at : Option ℕ → List ℕ → Option Literal
+number_at None text = cut_to 32 true 10 text
+number_at (Some k) text = behind_quote (size_of (take k text)) (drop (k + 1) text)
+
+-- what the text of a number that the lexer gives means (5.7.1); of other texts some mean something too, and some nothing
+abbrev pub number_of : List ℕ → Option Literal
+number_of text = number_at (position (λ b. b == 39) text) text
+
+-- whether a fill is of 1 or of 0, and nothing for a text that is no fill (5.7.1)
+abbrev pub fill_of : List ℕ → Option Bool
+fill_of text = if bytes_eq text (codes "'1") then Some true else (if bytes_eq text (codes "'0") then Some false else None)

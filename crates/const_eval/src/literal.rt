@@ -1,0 +1,129 @@
+//! Numbers and fills, by their texts (IEEE 1800-2017, 5.7.1).
+
+ghost use Rattle.std.specs.Prelude.{◌≡◌, ◌≤◌, ◌+◌, ◌*◌, ◌^◌, ◌==◌, MatchOption, option_map, position};
+ghost use Rattle.sv_lexer.specs.Bytes as bytes_spec;
+ghost use Rattle.const_eval.specs.Literal as spec;
+ghost use Rattle.const_eval.specs.Agreeing.{literal_of};
+
+use crate::env::Const;
+use bit_ops::{Bits, MAX_WIDTH, Word};
+
+/// What a digit counts in its place.
+fn digit_value(digit: u8) -> Word
+    ensures { result ≡ bytes_spec.digit_value digit }
+{
+    match digit {
+        b'0'..=b'9' => Word::from(digit - b'0'),
+        b'a'..=b'f' => Word::from(digit - b'a' + 10),
+        b'A'..=b'F' => Word::from(digit - b'A' + 10),
+        _ => 16,
+    }
+}
+
+/// The number with one more digit, where a word holds it.
+fn with_digit(value: Word, radix: Word, digit: Word) -> Option<Word>
+    ensures { MatchOption result (2 ^ 64 ≤ value * radix + digit) (λ v. v ≡ value * radix + digit) }
+{
+    value.checked_mul(radix)?.checked_add(digit)
+}
+
+/// The number that digits spell, with each `_` passed over, where a word holds it.
+fn spelled(radix: Word, digits: &[u8]) -> Option<Word>
+    requires { 1 ≤ radix }
+    ensures { MatchOption result (2 ^ 64 ≤ bytes_spec.spelled radix digits.now) (λ v. v ≡ bytes_spec.spelled radix digits.now) }
+{
+    let mut value = 0;
+    for digit in digits {
+        if *digit != b'_' {
+            value = with_digit(value, radix, digit_value(*digit))?;
+        }
+    }
+    Some(value)
+}
+
+/// How many digits the base of a letter has.
+fn radix(letter: u8) -> Option<Word>
+    ensures radix { result ≡ spec.radix_of letter }
+{
+    match letter {
+        b'b' | b'B' => Some(2),
+        b'o' | b'O' => Some(8),
+        b'd' | b'D' => Some(10),
+        b'h' | b'H' => Some(16),
+        _ => None,
+    }
+}
+
+/// The digits of a radix cut to a size, where a value may have it.
+fn cut(size: Word, signed: bool, radix: Word, digits: &[u8]) -> Option<Const>
+    requires { 1 ≤ radix }
+    ensures { option_map literal_of result ≡ spec.cut_to size signed radix digits.now }
+{
+    let word = spelled(radix, digits)?;
+    if size == 0 || size > Word::from(MAX_WIDTH) {
+        return None;
+    }
+    Some(Const {
+        value: Bits::truncated(size as u32, word),
+        signed,
+    })
+}
+
+fn with_base(size: Word, signed: bool, text: &[u8]) -> Option<Const>
+    ensures { option_map literal_of result ≡ spec.with_base size signed text.now }
+{
+    match text {
+        [] => None,
+        [letter, digits @ ..] => cut(size, signed, radix(*letter)?, digits),
+    }
+}
+
+/// What stands behind the `'` of a number of a size.
+fn behind_quote(size: Word, text: &[u8]) -> Option<Const>
+    ensures { option_map literal_of result ≡ spec.behind_quote size text.now }
+{
+    match text {
+        [] => None,
+        [b's' | b'S', rest @ ..] => with_base(size, true, rest),
+        _ => with_base(size, false, text),
+    }
+}
+
+/// The size before a `'`, where a word holds it.
+fn size(digits: &[u8]) -> Option<Word>
+    ensures { MatchOption result (2 ^ 64 ≤ spec.size_of digits.now) (λ v. v ≡ spec.size_of digits.now) }
+{
+    if digits.is_empty() {
+        Some(32)
+    } else {
+        spelled(10, digits)
+    }
+}
+
+/// Where the first `'` stands.
+fn first_quote(text: &[u8]) -> Option<usize>
+    ensures { result ≡ position (λ b. b == 39) text.now }
+{
+    text.iter().position(|b| *b == b'\'')
+}
+
+/// What the text of a number means: nothing where it is no number.
+pub fn number(text: &[u8]) -> Option<Const>
+    ensures { option_map literal_of result ≡ spec.number_of text.now }
+{
+    match first_quote(text) {
+        None => cut(32, true, 10, text),
+        Some(quote) => behind_quote(size(&text[..quote])?, &text[quote + 1..]),
+    }
+}
+
+/// Whether a fill is of 1 or of 0: nothing where the text is no fill.
+pub fn fill(text: &[u8]) -> Option<bool>
+    ensures { result ≡ spec.fill_of text.now }
+{
+    match text {
+        b"'1" => Some(true),
+        b"'0" => Some(false),
+        _ => None,
+    }
+}

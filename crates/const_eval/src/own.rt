@@ -1,0 +1,59 @@
+//! What an expression is worth by itself, and what has a value by itself.
+
+ghost use Rattle.std.specs.Prelude.{◌≡◌, ◌≤◌, ◌^◌, pos, neg_ℤ, ◌≤ℤ◌, ◌<ℤ◌};
+ghost use Rattle.const_eval.specs.Meaning as meaning;
+ghost use Rattle.const_eval.specs.Waiting.{value_of};
+ghost use Rattle.const_eval.specs.Agreeing.{Matches, number_in};
+
+use crate::measured::Measured;
+use crate::pending::{Pending, evaluate};
+use bit_ops::Bits;
+
+impl Measured {
+    /// The value by itself.
+    pub fn own(&self) -> Bits
+        ensures width { result.width ≡ self.now.size }
+        ensures word { result.word ≡ value_of self.now.pending self.now.size self.now.signed }
+    {
+        evaluate(&self.pending, self.size, self.signed)
+    }
+
+    /// The whole number that the value by itself stands for.
+    pub fn number(&self) -> i128
+        ensures number { result ≡ number_in self.now }
+        ensures least { neg_ℤ (pos (2 ^ 63)) ≤ℤ result }
+        ensures greatest { result <ℤ pos (2 ^ 64) }
+    {
+        let own = self.own();
+        if self.signed && own.is_negative() {
+            i128::from(own.word) - (1 << own.width)
+        } else {
+            i128::from(own.word)
+        }
+    }
+
+    /// Whether the value is another than 0.
+    pub fn holds(&self) -> bool
+        ensures { (m : meaning.Meaning) → Matches self.now m → result ≡ meaning.holds m }
+    {
+        self.own().word != 0
+    }
+}
+
+/// What has a value by itself, which a context only extends.
+pub fn alone(bits: Bits, signed: bool) -> Measured
+    ensures { Matches result (meaning.alone bits.width signed bits.word) }
+{
+    Measured {
+        size: bits.width,
+        signed,
+        pending: Pending::Alone(bits),
+    }
+}
+
+/// One bit that says whether a fact holds.
+pub fn flag(holds: bool) -> Measured
+    ensures { Matches result (meaning.flag holds) }
+{
+    alone(Bits::flag(holds), false)
+}

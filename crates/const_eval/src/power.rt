@@ -1,0 +1,37 @@
+//! Powers and logarithms.
+
+ghost use Rattle.std.specs.Prelude.{◌≡◌, ◌^◌, ◌*◌, ◌%◌};
+ghost use Rattle.const_eval.specs.Operators.{raised_to, logarithm};
+
+use bit_ops::{Bits, MAX_WIDTH, Word};
+
+/// `a` to a power, modulo 2 to the width.
+pub fn raised_to(a: Bits, exponent: Word) -> Bits
+    ensures width { result.width ≡ a.width }
+    ensures word { result.word ≡ raised_to a.width a.word exponent }
+{
+    let mut result = Bits::truncated(a.width, 1);
+    let mut base = a;
+    let mut left = exponent;
+    while left > 0 {
+        if left % 2 == 1 {
+            result = bit_ops::mul(result, base);
+        }
+        base = bit_ops::mul(base, base);
+        left /= 2;
+    }
+    result
+}
+
+/// The logarithm to the base 2, rounded up; 0 of 0.
+pub fn logarithm(a: Word) -> u32
+    ensures { result ≡ logarithm a }
+{
+    let mut count = 0;
+    for k in 0..MAX_WIDTH {
+        if (1 << k) < a {
+            count += 1;
+        }
+    }
+    count
+}
