@@ -1,7 +1,8 @@
--- Which ports are of a class, and levels of clocks as words.
-use Rattle.std.specs.Prelude.{ℕ, Bool, true, false}
+-- Which ports are of a class, what stands at them, and levels of clocks as words.
+use Rattle.std.specs.Prelude.{ℕ, Bool, true, false, List, [], ◌∷◌, if◌then◌else◌}
 use Rattle.sv_base.specs.declared.face.Class.{Class}
 use Rattle.sv_base.specs.declared.face.Class.TheVariants.{Value, Clock, Idle, Output}
+use Rattle.sv_base.specs.declared.face.Port.{Port}
 
 -- a data input
 abbrev pub is_value : Class → Bool
@@ -33,3 +34,10 @@ is_input Output = false
 abbrev pub level_word : Bool → ℕ
 level_word false = 0
 level_word true = 1
+
+-- of a list with an entry for each port those of the ports of some classes, in port order
+abbrev pub words_of_class : (Class → Bool) → List Port → List ℕ → List ℕ
+words_of_class chosen [] words = []
+words_of_class chosen (p ∷ ports) [] = []
+words_of_class chosen (p ∷ ports) (word ∷ words) =
+    if chosen p.class then word ∷ words_of_class chosen ports words else words_of_class chosen ports words

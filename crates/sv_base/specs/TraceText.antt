@@ -1,4 +1,4 @@
--- The text of a trace: its header, and the line of a step.
+-- The text of a trace: its header, the line of a step, and the whole.
 use Rattle.std.specs.Prelude.{ℕ, zero, suc, ◌+◌, ◌/◌, ◌%◌, List, [], ◌∷◌, ◌++◌, codes, nat_lt, if◌then◌else◌}
 use Rattle.std.specs.List.{flat_map, zip}
 use Rattle.std.specs.Fmt.{decimal}
@@ -32,3 +32,12 @@ header ports = codes "step" ++ flat_map heading ports ++ 10 ∷ []
 -- the line of a step: its number, and the words of the ports
 abbrev pub line : ℕ → List Port → List ℕ → List ℕ
 line number ports words = decimal number ++ flat_map cell (zip ports words) ++ 10 ∷ []
+
+-- the lines of rows, each a word for each port, the first of which has this number
+abbrev pub lines_of_rows : ℕ → List Port → List (List ℕ) → List ℕ
+lines_of_rows number ports [] = []
+lines_of_rows number ports (row ∷ rows) = line number ports row ++ lines_of_rows (number + 1) ports rows
+
+-- the text of a trace that has these rows: the header, and a line for each of them, counted from 0
+abbrev pub trace_text : List Port → List (List ℕ) → List ℕ
+trace_text ports rows = header ports ++ lines_of_rows 0 ports rows
