@@ -1,7 +1,7 @@
 -- bytes that the outside holds, where it tells them: `None` tells nothing
-use Rattle.std.specs.Prelude.{◌≡◌, ℕ, ◌<◌, ◌≤◌, List, [], ◌++◌, length, take, drop, min, Option, None, Some}
+use Rattle.std.specs.Prelude.{◌≡◌, ℕ, ◌<◌, ◌≤◌, List, [], ◌++◌, length, take, drop, min, ⊤, Option, None, Some}
 use Rattle.std.proofs.Common.{refl, ap, sym, subst, ◌∙◌, ◌+◌, append_assoc, arith}
-use Rattle.std.proofs.lemmas.List.{append-nil}
+use Rattle.std.proofs.lemmas.List.{append-nil, take-append-drop}
 use Rattle.std.proofs.lemmas.Grind.{common_steps}
 use Rattle.std.proofs.Math.Seq.{take-append-add, take-length}
 
@@ -57,3 +57,35 @@ pub record IsNext (rest buffer : List ℕ) (n : ℕ) : Type 0 where
 abbrev pub TookNext : Option (List ℕ) → Option (List ℕ) → List ℕ → ℕ → Type 0
 TookNext None after buffer n = after ≡ None
 TookNext (Some rest) after buffer n = IsNext rest buffer n × (after ≡ Some (drop n rest))
+
+-- exactly these bytes were taken from the front of those left; what wasn't told stays untold
+abbrev pub Took : Option (List ℕ) → Option (List ℕ) → List ℕ → Type 0
+Took None after taken = after ≡ None
+Took (Some left) after taken = (rest : List ℕ) × (left ≡ taken ++ rest) × (after ≡ Some rest)
+
+-- no byte is left, where that is told
+abbrev pub IsAtEnd : Option (List ℕ) → Type 0
+IsAtEnd None = ⊤
+IsAtEnd (Some left) = left ≡ []
+
+-- taking nothing leaves what is told
+pub took_nothing : (told : Option (List ℕ)) → Took told told []
+took_nothing None = refl
+took_nothing (Some left) = (left, refl, refl)
+
+-- bytes that are taken, and then others, are taken together
+pub took_both : (a b c : Option (List ℕ)) (xs ys : List ℕ) → Took a b xs → Took b c ys → Took a c (xs ++ ys)
+took_both None b c xs ys p q = subst (λ m. Took m c ys) p q
+took_both (Some left) b c xs ys (rest, is, p) q =
+    let more : Took (Some rest) c ys = subst (λ m. Took m c ys) p q in
+    (more.0, is ∙ ap (λ (zs : List ℕ). xs ++ zs) more.1 ∙ sym (append_assoc xs ys more.0), more.2)
+
+-- what a read has put at the front of the buffer was taken
+pub took_next : (before after : Option (List ℕ)) (buffer : List ℕ) (n : ℕ) → TookNext before after buffer n → Took before after (take n buffer)
+took_next None after buffer n p = p
+took_next (Some left) after buffer n (next, p) = (drop n left, sym (ap (λ (xs : List ℕ). xs ++ drop n left) next.front ∙ take-append-drop n left), p)
+
+-- a read into a buffer with room that answers no bytes has come to the end
+pub took_end : (before after : Option (List ℕ)) (buffer : List ℕ) → 0 < length buffer → TookNext before after buffer 0 → IsAtEnd after
+took_end None after buffer some p = subst IsAtEnd (sym p) tt
+took_end (Some left) after buffer some (next, p) = subst IsAtEnd (sym p) (next.at_end some refl)

@@ -13,6 +13,7 @@ mod mem_folder;
 mod mem_sink;
 mod mem_source;
 mod offering;
+mod open_file;
 mod sink;
 mod source;
 mod stream_sink;

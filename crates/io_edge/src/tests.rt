@@ -6,8 +6,10 @@ use crate::{
     StreamSink, offer,
 };
 use std::alloc::{AllocError, Global};
-use std::io::Read;
+use std::io::{Read, Write};
+use std::os::fd::AsRawFd;
 use std::process::Abort;
+use std::rt::Env;
 use std::test::Fail;
 use std::{env, fs, io, process};
 use sv_base::Name;
@@ -159,24 +161,60 @@ fn source_in_memory_gives_pieces(rt: HostRuntime) -> Result<(), Fail> {
     Ok(())
 }
 
+// A path in the folder for files that don't stay, which no other process and no other test has.
+fn own_path(rt: &(impl AllocGlobal + Env), label: &str, id: u32) -> Result<String, Fail> {
+    let place = env::temp_dir(rt)?;
+    Ok(format!(in rt.alloc(); "{}/io_edge_{label}_{id}", place.as_str())?)
+}
+
 #[test]
-fn folder_of_the_system_keeps_a_file(rt: HostRuntime) -> Result<(), Fail> {
-    let place = env::temp_dir(&rt)?;
-    let id = process::id(rt.process());
-    let name = format!(in rt.alloc(); "{}/io_edge_{id}", place.as_str())?;
-    let name = name.as_str();
-    let mut folder = DiskFolder {
-        rt: &rt,
-        read_faults: 0,
-        write_faults: 0,
-    };
+fn folder_of_the_system_reads_by_pieces(rt: HostRuntime) -> Result<(), Fail> {
+    let path = own_path(&rt, "pieces", process::id(rt.process()))?;
+    let name = path.as_str();
+    let mut folder = DiskFolder::new(rt.alloc(), &rt);
     let mut buffer = [0u8; 3];
+    assert_eq!(rt; folder.write_whole(name, b"abcdefgh"), Ok(()));
+    assert_eq!(rt; folder.read_at(name, 0, &mut []), Ok(Got::Bytes(0)));
+    assert_eq!(rt; folder.read_at(name, 0, &mut buffer), Ok(Got::Bytes(3)));
+    assert_eq!(rt; buffer.as_slice(), b"abc".as_slice());
+    assert_eq!(rt; folder.read_at(name, 3, &mut buffer), Ok(Got::Bytes(3)));
+    assert_eq!(rt; buffer.as_slice(), b"def".as_slice());
+    assert_eq!(rt; folder.read_at(name, 1, &mut buffer), Ok(Got::Bytes(3)));
+    assert_eq!(rt; buffer.as_slice(), b"bcd".as_slice());
+    assert_eq!(rt; folder.read_at(name, 7, &mut buffer), Ok(Got::Bytes(1)));
+    assert_eq!(rt; buffer[0], b'h');
+    assert_eq!(rt; folder.read_at(name, 8, &mut buffer), Ok(Got::Bytes(0)));
+    assert_eq!(rt; folder.read_at(name, 9, &mut buffer), Ok(Got::Bytes(0)));
+
+    // It grows, and is read on. After it is gone it is still open, until another name is read.
+    let mut end = fs::OpenOptions::new().append(true).open(&rt, name)?;
+    end.write_all(b"ij")?;
+    assert_eq!(rt; folder.read_at(name, 9, &mut buffer), Ok(Got::Bytes(1)));
+    assert_eq!(rt; buffer[0], b'j');
+    fs::remove_file(&rt, name)?;
+    assert_eq!(rt; folder.read_at(name, 8, &mut buffer), Ok(Got::Bytes(2)));
+    assert!(rt; buffer.starts_with(b"ij"));
+    assert_eq!(rt; folder.read_at("", 0, &mut buffer), Ok(Got::Absent));
+    assert_eq!(rt; folder.read_at(name, 8, &mut buffer), Ok(Got::Absent));
+    assert_eq!(rt; (folder.read_faults, folder.write_faults), (0, 0));
+    Ok(())
+}
+
+#[test]
+fn folder_of_the_system_keeps_what_was_written(rt: HostRuntime) -> Result<(), Fail> {
+    let path = own_path(&rt, "written", process::id(rt.process()))?;
+    let name = path.as_str();
+    let mut folder = DiskFolder::new(rt.alloc(), &rt);
+    let mut buffer = [0u8; 3];
+    assert_eq!(rt; folder.read_at(name, 0, &mut []), Ok(Got::Absent));
     assert_eq!(rt; folder.read_at(name, 0, &mut buffer), Ok(Got::Absent));
     assert_eq!(rt; folder.write_whole(name, b"hello"), Ok(()));
+    assert_eq!(rt; folder.read_at(name, 0, &mut buffer), Ok(Got::Bytes(3)));
+    assert_eq!(rt; buffer.as_slice(), b"hel".as_slice());
+    fs::remove_file(&rt, name)?;
     assert_eq!(rt; folder.write_whole(name, b"bytes"), Ok(()));
-    assert_eq!(rt; folder.read_at(name, 1, &mut buffer), Ok(Got::Bytes(3)));
-    assert_eq!(rt; buffer.as_slice(), b"yte".as_slice());
-    assert_eq!(rt; folder.read_at(name, 5, &mut buffer), Ok(Got::Bytes(0)));
+    assert_eq!(rt; folder.read_at(name, 3, &mut buffer), Ok(Got::Bytes(2)));
+    assert!(rt; buffer.starts_with(b"es"));
     fs::remove_file(&rt, name)?;
     assert_eq!(rt; (folder.read_faults, folder.write_faults), (0, 0));
 
@@ -184,6 +222,28 @@ fn folder_of_the_system_keeps_a_file(rt: HostRuntime) -> Result<(), Fail> {
     assert_eq!(rt; folder.read_at("/", 0, &mut buffer), Err(Failed));
     assert_eq!(rt; folder.write_whole("/", b"hello"), Err(Failed));
     assert_eq!(rt; (folder.read_faults, folder.write_faults), (1, 1));
+    Ok(())
+}
+
+#[test]
+fn folder_of_the_system_reads_a_pipe_to_its_end(rt: HostRuntime) -> Result<(), Fail> {
+    let (reader, mut writer) = io::pipe(&rt)?;
+    writer.write_all(b"hello")?;
+    drop(writer);
+    let path = format!(in rt.alloc(); "/dev/fd/{}", reader.as_raw_fd())?;
+    let mut folder = DiskFolder::new(rt.alloc(), &rt);
+    let mut source = FolderSource {
+        folder: &mut folder,
+        name: path.as_str(),
+        at: 0,
+    };
+    assert_eq!(rt; count_left(&mut source), Ok(5));
+    assert_eq!(rt; source.read(&mut []), Ok(0));
+
+    // It can't be read from another place.
+    let mut buffer = [0u8; 3];
+    assert_eq!(rt; folder.read_at(path.as_str(), 2, &mut buffer), Err(Failed));
+    assert_eq!(rt; folder.read_faults, 1);
     Ok(())
 }
 
