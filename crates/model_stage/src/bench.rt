@@ -1,48 +1,58 @@
 //! A design that is played: it is set from outside, step by step, and shows its outputs.
 
-ghost use Rattle.std.specs.Prelude.{◌≡◌, ℕ, ◌+◌, ◌<◌, ◌≤◌, List, length};
+ghost use Rattle.std.specs.Prelude.{◌≡◌, ℕ, ◌+◌, ◌<◌, ◌≤◌, List, length, map, Some, slice_get};
 ghost use Rattle.bit_ops.specs.Lists.{words, widths};
-ghost use Rattle.net_ir.specs.declared.design.Spec.{Spec};
-ghost use Rattle.net_ir.specs.Face.{ports_of};
-ghost use Rattle.net_ir.specs.Run.{State};
-ghost use Rattle.net_ir.specs.Solution.{Solves};
-ghost use Rattle.model_stage.specs.Bench.{input_widths, clock_count, output_places, level_words, TakesInputs, TakesLevels, IsShown};
+ghost use Rattle.sv_base.specs.declared.face.Port.{Port};
+ghost use Rattle.sv_base.specs.Classes.{is_value, is_clock, is_output, level_word, words_of_class};
+ghost use Rattle.sv_base.specs.Meaning.{Held, Meaning, MeansSame, widths_of_class};
 
 use bit_ops::Bits;
 
-/// A settled design: what it means, its state, and how many steps it has room for. Idle inputs are not set.
+/// A design that is settled: what it means, what it holds, what its outputs are, and how many steps it has room for. Idle
+/// inputs are not set.
 pub trait Bench {
-    // the design
-    ghost design: { Self → Spec };
+    // what it means: no step changes that
+    ghost meaning: { Self → Meaning };
 
-    // the levels of its inputs and the words of its registers
-    ghost state: { Self → State };
+    // the words of its data inputs and registers, and the levels of its clocks
+    ghost held: { Self → Held };
+
+    // the words of its outputs, in port order
+    ghost outputs: { Self → List ℕ };
 
     // how many steps may still be made
     ghost room: { Self → ℕ };
 
     /// Makes one data step: the data inputs take these values, one for each of them in port order.
     fn set_values(&mut self, inputs: &[Bits])
-        requires inputs { widths inputs.now ≡ input_widths (ports_of (design self.old)) }
+        requires inputs { widths inputs.now ≡ widths_of_class is_value (meaning self.old).ports }
         requires room { 0 < room self.old }
-        ensures design { design self.new ≡ design self.old }
-        ensures state { TakesInputs (ports_of (design self.old)) (words inputs.now) (state self.old) (state self.new) }
+        ensures same { MeansSame (meaning self.old) (meaning self.new) }
+        ensures values { (held self.new).values ≡ words inputs.now }
+        ensures levels { (held self.new).levels ≡ (held self.old).levels }
+        ensures registers { (held self.new).registers ≡ (held self.old).registers }
         ensures room { room self.old ≤ room self.new + 1 };
 
     /// Makes one clock step: the clocks take these levels, one for each of them in port order, and registers whose edge
     /// occurs sample what they read before.
     fn set_clocks(&mut self, levels: &[bool])
-        requires levels { length levels.now ≡ clock_count (ports_of (design self.old)) }
+        requires levels { length levels.now ≡ length (widths_of_class is_clock (meaning self.old).ports) }
         requires room { 0 < room self.old }
-        ensures design { design self.new ≡ design self.old }
-        ensures state { TakesLevels (design self.old) (level_words levels.now) (state self.old) (state self.new) }
+        ensures same { MeansSame (meaning self.old) (meaning self.new) }
+        ensures values { (held self.new).values ≡ (held self.old).values }
+        ensures levels { (held self.new).levels ≡ map level_word levels.now }
+        ensures registers { (meaning self.old).samples (held self.old) (map level_word levels.now) (held self.new).registers }
         ensures room { room self.old ≤ room self.new + 1 };
 
     /// The value of an output, counted from 0 in port order.
     fn out(&self, k: usize) -> Bits
-        requires { k < length (output_places (ports_of (design self.now))) }
-        ensures { IsShown (design self.now) (state self.now) k result };
+        requires { k < length (outputs self.now) }
+        ensures word { slice_get (outputs self.now) k ≡ Some result.word }
+        ensures width { slice_get (widths_of_class is_output (meaning self.now).ports) k ≡ Some result.width };
 
-    // it is settled: its design has a solution in its state
-    ghost settled: { (bench : Self) → (u : List ℕ) × Solves (design bench) (state bench) u };
+    // it is settled: these are its outputs where it holds this
+    ghost settled: { (bench : Self) → (meaning bench).shows (held bench) (outputs bench) };
+
+    // it has a word for each output
+    ghost each: { (bench : Self) → length (outputs bench) ≡ length (widths_of_class is_output (meaning bench).ports) };
 }
