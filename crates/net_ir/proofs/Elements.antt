@@ -1,6 +1,6 @@
 -- What holds of each element of a list, and of the elements of the lists that they give.
-use Rattle.std.proofs.Common.{◌≡◌, List, [], ◌∷◌, ◌++◌, map, Bool, false, refl, ◌∙◌, ap}
-use Rattle.std.specs.Prelude.{◌||◌}
+use Rattle.std.proofs.Common.{◌≡◌, ℕ, zero, suc, List, [], ◌∷◌, ◌++◌, map, Bool, false, refl, ◌∙◌, ap, subst, None, Some}
+use Rattle.std.specs.Prelude.{◌||◌, slice_get}
 use Rattle.std.specs.List.{AllByRecursion, flat_map, list_any}
 use Rattle.std.proofs.lemmas.Bool.{or_parts, or_from}
 use Rattle.net_ir.proofs.Terms.{all_front, all_back}
@@ -14,17 +14,25 @@ pub all_both : {X : Type 0} (P Q R : X → Type 0) → ((x : X) → P x → Q x 
 all_both P Q R step [] p q = tt
 all_both P Q R step (x ∷ xs) p q = (step x p.0 q.0, all_both P Q R step xs p.1 q.1)
 
+-- what holds of each holds of the element at a place
+pub all_get : {X : Type 0} (P : X → Type 0) (xs : List X) (i : ℕ) (x : X) → AllByRecursion P xs → slice_get xs i ≡ Some x → P x
+all_get P [] i x all is = absurd (let clash : None ≡ Some x = is in cc)
+all_get P (y ∷ xs) zero x all is = subst P (let same : Some y ≡ Some x = is in cc) all.0
+all_get P (y ∷ xs) (suc i) x all is = all_get P xs i x all.1 is
+
 -- what holds of both parts holds of the whole
 pub all_join : {X : Type 0} (P : X → Type 0) (xs ys : List X) → AllByRecursion P xs → AllByRecursion P ys → AllByRecursion P (xs ++ ys)
 all_join P [] ys p q = q
 all_join P (x ∷ xs) ys p q = (p.0, all_join P xs ys p.1 q)
 
 -- what holds of the elements of each list holds of those of all, and back
-pub all_flat : {X Y : Type 0} (P : Y → Type 0) (f : X → List Y) (xs : List X) → AllByRecursion (λ x. AllByRecursion P (f x)) xs → AllByRecursion P (flat_map f xs)
+pub all_flat : {X Y : Type 0} (P : Y → Type 0) (f : X → List Y) (xs : List X) → AllByRecursion (λ x. AllByRecursion P (f x)) xs →
+    AllByRecursion P (flat_map f xs)
 all_flat P f [] all = tt
 all_flat P f (x ∷ xs) all = all_join P (f x) (flat_map f xs) all.0 (all_flat P f xs all.1)
 
-pub each_flat : {X Y : Type 0} (P : Y → Type 0) (f : X → List Y) (xs : List X) → AllByRecursion P (flat_map f xs) → AllByRecursion (λ x. AllByRecursion P (f x)) xs
+pub each_flat : {X Y : Type 0} (P : Y → Type 0) (f : X → List Y) (xs : List X) → AllByRecursion P (flat_map f xs) →
+    AllByRecursion (λ x. AllByRecursion P (f x)) xs
 each_flat P f [] all = tt
 each_flat P f (x ∷ xs) all = (all_front P (f x) (flat_map f xs) all, each_flat P f xs (all_back P (f x) (flat_map f xs) all))
 

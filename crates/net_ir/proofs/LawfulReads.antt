@@ -33,7 +33,8 @@ reads_const : (bits : Bits) → reads_of (Const bits) ≡ []
 reads_const bits = fold_out-Term (List ℕ) reads_of_layer (Const bits) ∙ ap (λ x. reads_of_layer (map-Term Term (List ℕ) reads_of x)) (outs-Const bits)
 
 reads_read : (var : ℕ) (place : Place) → reads_of (Read var place) ≡ var ∷ []
-reads_read var place = fold_out-Term (List ℕ) reads_of_layer (Read var place) ∙ ap (λ x. reads_of_layer (map-Term Term (List ℕ) reads_of x)) (outs-Read var place)
+reads_read var place =
+    fold_out-Term (List ℕ) reads_of_layer (Read var place) ∙ ap (λ x. reads_of_layer (map-Term Term (List ℕ) reads_of x)) (outs-Read var place)
 
 reads_apply : (op : Op) (width lo : ℕ) (args : List Term) → reads_of (Apply op width lo args) ≡ flat_map reads_of args
 reads_apply op width lo args =
@@ -42,12 +43,14 @@ reads_apply op width lo args =
     ∙ flat_map-map (λ (reads : List ℕ). reads) reads_of args
 
 -- the operands of a lawful operation are lawful
-held_args : (ws : List ℕ) (op : Op) (width lo : ℕ) (args : List Term) (y : Term-F ((t : Term) × IsLawful ws t)) → map-Term ((t : Term) × IsLawful ws t) Term (λ e. e.0) y ≡ layer.Apply op width lo args → (held : List ((t : Term) × IsLawful ws t)) × (map (λ e. e.0) held ≡ args)
+held_args : (ws : List ℕ) (op : Op) (width lo : ℕ) (args : List Term) (y : Term-F ((t : Term) × IsLawful ws t)) →
+    map-Term ((t : Term) × IsLawful ws t) Term (λ e. e.0) y ≡ layer.Apply op width lo args →
+    (held : List ((t : Term) × IsLawful ws t)) × (map (λ e. e.0) held ≡ args)
 held_args ws op width lo args (layer.Const bits) is = absurd (cc)
 held_args ws op width lo args (layer.Read var place) is = absurd (cc)
 held_args ws op width lo args (layer.Apply op' width' lo' held) is = (held, cc)
 
-lawful_args : (ws : List ℕ) (op : Op) (width lo : ℕ) (args : List Term) → IsLawful ws (Apply op width lo args) → AllByRecursion (IsLawful ws) args
+pub lawful_args : (ws : List ℕ) (op : Op) (width lo : ℕ) (args : List Term) → IsLawful ws (Apply op width lo args) → AllByRecursion (IsLawful ws) args
 lawful_args ws op width lo args lawful =
     let all = every_held-Term (IsLawfulLayer ws) (Apply op width lo args) lawful in
     let held = held_args ws op width lo args all.0 (all.1 ∙ outs-Apply op width lo args) in
@@ -59,7 +62,8 @@ ReadsThere ws t = IsLawful ws t → AreThere ws (reads_of t)
 
 there_layer : (ws : List ℕ) (y : Term-F ((t : Term) × ReadsThere ws t)) → ReadsThere ws (roll-Term (map-Term ((t : Term) × ReadsThere ws t) Term (λ e. e.0) y))
 there_layer ws (layer.Const bits) = subst (ReadsThere ws) (sym (rolls-Const bits)) (λ lawful. subst (AreThere ws) (sym (reads_const bits)) tt)
-there_layer ws (layer.Read var place) = subst (ReadsThere ws) (sym (rolls-Read var place)) (λ lawful. subst (AreThere ws) (sym (reads_read var place)) (lawful_read ws var place lawful, tt))
+there_layer ws (layer.Read var place) =
+    subst (ReadsThere ws) (sym (rolls-Read var place)) (λ lawful. subst (AreThere ws) (sym (reads_read var place)) (lawful_read ws var place lawful, tt))
 there_layer ws (layer.Apply op width lo held) =
     let args : List Term = map (λ e. e.0) held in
     subst (ReadsThere ws) (sym (rolls-Apply op width lo args)) (λ lawful.

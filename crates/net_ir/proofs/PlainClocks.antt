@@ -12,9 +12,10 @@ use Rattle.net_ir.specs.declared.design.Driver.TheVariants.{Assign, Clocked}
 use Rattle.net_ir.specs.declared.design.Spec.{Spec}
 use Rattle.net_ir.specs.Face.{all_reads}
 use Rattle.net_ir.specs.Plain.{IsPlainClock, IsPlainTrigger, HasPlainClocks}
-use Rattle.net_ir.specs.Marks.{AreMarksOf, is_clear, is_input, is_clock_if, is_clock, are_clocks, has_clocks}
+use Rattle.net_ir.specs.code.Marks.{AreMarksOf, is_clear, is_input, is_clock_if, is_clock, are_clocks, has_clocks}
 use Rattle.net_ir.proofs.Marking.{same_test, same_from_test}
-use Rattle.net_ir.proofs.Turns.{and_true, and_front, and_back, not_true, true_not, width_is}
+use Rattle.net_ir.proofs.Turns.{and_true, and_front, and_back, not_true, true_not}
+use Rattle.net_ir.proofs.Unique.{width_is}
 
 input_role : (r : Role) → is_input r ≡ true → r ≡ Input
 input_role Input is = refl
@@ -25,7 +26,8 @@ input_role Inner is = absurd (let clash : false ≡ true = is in cc)
 abbrev pub AreReadMarks : Spec → List Bool → Type 0
 AreReadMarks spec read = AreMarksOf (length spec.vars) (all_reads spec) read
 
-clock_sound : (spec : Spec) (read : List Bool) (x : ℕ) (found : Option Var) → AreReadMarks spec read → slice_get spec.vars x ≡ found → is_clock_if found (is_clear read x) ≡ true → IsPlainClock spec x
+clock_sound : (spec : Spec) (read : List Bool) (x : ℕ) (found : Option Var) → AreReadMarks spec read → slice_get spec.vars x ≡ found →
+    is_clock_if found (is_clear read x) ≡ true → IsPlainClock spec x
 clock_sound spec read x None are is passes = absurd (let clash : false ≡ true = passes in cc)
 clock_sound spec read x (Some v) are is passes =
     let front : (is_input v.role && (v.width == 1)) ≡ true = and_front (is_input v.role && (v.width == 1)) (is_clear read x) passes in
@@ -54,14 +56,16 @@ trigger_complete : (spec : Spec) (read : List Bool) (name : Option ℕ) → AreR
 trigger_complete spec read None are plain = absurd plain
 trigger_complete spec read (Some x) are plain = clock_complete spec read x are plain
 
-triggers_sound : (spec : Spec) (read : List Bool) (triggers : List Trigger) → AreReadMarks spec read → are_clocks spec.vars read triggers ≡ true → AllByRecursion (λ (t : Trigger). IsPlainTrigger spec t.var) triggers
+triggers_sound : (spec : Spec) (read : List Bool) (triggers : List Trigger) → AreReadMarks spec read → are_clocks spec.vars read triggers ≡ true →
+    AllByRecursion (λ (t : Trigger). IsPlainTrigger spec t.var) triggers
 triggers_sound spec read [] are passes = tt
 triggers_sound spec read (t ∷ triggers) are passes = (
   trigger_sound spec read t.var are (and_front (is_clock spec.vars read t.var) (are_clocks spec.vars read triggers) passes),
   triggers_sound spec read triggers are (and_back (is_clock spec.vars read t.var) (are_clocks spec.vars read triggers) passes),
 )
 
-triggers_complete : (spec : Spec) (read : List Bool) (triggers : List Trigger) → AreReadMarks spec read → AllByRecursion (λ (t : Trigger). IsPlainTrigger spec t.var) triggers → are_clocks spec.vars read triggers ≡ true
+triggers_complete : (spec : Spec) (read : List Bool) (triggers : List Trigger) → AreReadMarks spec read →
+    AllByRecursion (λ (t : Trigger). IsPlainTrigger spec t.var) triggers → are_clocks spec.vars read triggers ≡ true
 triggers_complete spec read [] are plain = refl
 triggers_complete spec read (t ∷ triggers) are plain =
     and_true (is_clock spec.vars read t.var) (are_clocks spec.vars read triggers) (trigger_complete spec read t.var are plain.0) (triggers_complete spec read triggers are plain.1)
@@ -74,20 +78,23 @@ driver_complete : (spec : Spec) (read : List Bool) (d : Driver) → AreReadMarks
 driver_complete spec read (Assign target value place) are plain = refl
 driver_complete spec read (Clocked triggers body place) are plain = triggers_complete spec read triggers are plain
 
-clocks_sound : (spec : Spec) (read : List Bool) (drivers : List Driver) → AreReadMarks spec read → list_all (has_clocks spec.vars read) drivers ≡ true → AllByRecursion (HasPlainClocks spec) drivers
+clocks_sound : (spec : Spec) (read : List Bool) (drivers : List Driver) → AreReadMarks spec read → list_all (has_clocks spec.vars read) drivers ≡ true →
+    AllByRecursion (HasPlainClocks spec) drivers
 clocks_sound spec read [] are passes = tt
 clocks_sound spec read (d ∷ drivers) are passes = (
   driver_sound spec read d are (and_front (has_clocks spec.vars read d) (list_all (has_clocks spec.vars read) drivers) passes),
   clocks_sound spec read drivers are (and_back (has_clocks spec.vars read d) (list_all (has_clocks spec.vars read) drivers) passes),
 )
 
-clocks_complete : (spec : Spec) (read : List Bool) (drivers : List Driver) → AreReadMarks spec read → AllByRecursion (HasPlainClocks spec) drivers → list_all (has_clocks spec.vars read) drivers ≡ true
+clocks_complete : (spec : Spec) (read : List Bool) (drivers : List Driver) → AreReadMarks spec read → AllByRecursion (HasPlainClocks spec) drivers →
+    list_all (has_clocks spec.vars read) drivers ≡ true
 clocks_complete spec read [] are plain = refl
 clocks_complete spec read (d ∷ drivers) are plain =
     and_true (has_clocks spec.vars read d) (list_all (has_clocks spec.vars read) drivers) (driver_complete spec read d are plain.0) (clocks_complete spec read drivers are plain.1)
 
 -- what is found of the drivers decides
-pub clocks_decided : (spec : Spec) (read : List Bool) (passes : Bool) → AreReadMarks spec read → passes ≡ list_all (has_clocks spec.vars read) spec.drivers → IsTrue passes ↔ AllByRecursion (HasPlainClocks spec) spec.drivers
+pub clocks_decided : (spec : Spec) (read : List Bool) (passes : Bool) → AreReadMarks spec read → passes ≡ list_all (has_clocks spec.vars read) spec.drivers →
+    IsTrue passes ↔ AllByRecursion (HasPlainClocks spec) spec.drivers
 clocks_decided spec read passes are is = (
   (λ holds_now. clocks_sound spec read spec.drivers are (sym is ∙ holds_now)),
   (λ plain. is ∙ clocks_complete spec read spec.drivers are plain),

@@ -9,7 +9,7 @@ use Rattle.net_ir.specs.declared.design.Driver.TheVariants.{Assign, Clocked}
 use Rattle.net_ir.specs.Statement.{targets_of}
 use Rattle.net_ir.specs.Drive.{target_var}
 use Rattle.net_ir.specs.Plain.{NamesNoNet, WritesNoNet}
-use Rattle.net_ir.specs.Turns.{net_if, names_no_net, name_no_nets, writes_no_net}
+use Rattle.net_ir.specs.code.Turns.{net_if, names_no_net, name_no_nets, writes_no_net}
 use Rattle.net_ir.proofs.Turns.{and_true, and_front, and_back, not_true, true_not}
 
 name_sound : (vars : List Var) (name : Option ℕ) → names_no_net vars name ≡ true → NamesNoNet vars name
@@ -32,7 +32,8 @@ targets_sound vars (t ∷ ts) passes = (
 
 targets_complete : (vars : List Var) (ts : List Target) → AllByRecursion (λ (t : Target). NamesNoNet vars (target_var t)) ts → name_no_nets vars ts ≡ true
 targets_complete vars [] names = refl
-targets_complete vars (t ∷ ts) names = and_true (names_no_net vars (target_var t)) (name_no_nets vars ts) (name_complete vars (target_var t) names.0) (targets_complete vars ts names.1)
+targets_complete vars (t ∷ ts) names =
+    and_true (names_no_net vars (target_var t)) (name_no_nets vars ts) (name_complete vars (target_var t) names.0) (targets_complete vars ts names.1)
 
 driver_sound : (vars : List Var) (d : Driver) → writes_no_net vars d ≡ true → WritesNoNet vars d
 driver_sound vars (Assign target value place) passes = tt
@@ -51,10 +52,12 @@ nets_sound vars (d ∷ drivers) passes = (
 
 nets_complete : (vars : List Var) (drivers : List Driver) → AllByRecursion (WritesNoNet vars) drivers → list_all (writes_no_net vars) drivers ≡ true
 nets_complete vars [] writes = refl
-nets_complete vars (d ∷ drivers) writes = and_true (writes_no_net vars d) (list_all (writes_no_net vars) drivers) (driver_complete vars d writes.0) (nets_complete vars drivers writes.1)
+nets_complete vars (d ∷ drivers) writes =
+    and_true (writes_no_net vars d) (list_all (writes_no_net vars) drivers) (driver_complete vars d writes.0) (nets_complete vars drivers writes.1)
 
 -- what is found of the drivers decides
-pub nets_decided : (vars : List Var) (drivers : List Driver) (passes : Bool) → passes ≡ list_all (writes_no_net vars) drivers → IsTrue passes ↔ AllByRecursion (WritesNoNet vars) drivers
+pub nets_decided : (vars : List Var) (drivers : List Driver) (passes : Bool) → passes ≡ list_all (writes_no_net vars) drivers →
+    IsTrue passes ↔ AllByRecursion (WritesNoNet vars) drivers
 nets_decided vars drivers passes is = (
   (λ holds_now. nets_sound vars drivers (sym is ∙ holds_now)),
   (λ writes. is ∙ nets_complete vars drivers writes),

@@ -28,7 +28,8 @@ writes_block ws u parts =
     ∙ ap (λ x. writes_of_layer ws u (map-Stmt Stmt (List Write) (writes_of ws u) x)) (outs-Block parts)
     ∙ flat_map-map (λ (part : List Write). part) (writes_of ws u) parts
 
-pub writes_assign : (ws u : List ℕ) (blocking : Bool) (target : Target) (value : Term) → writes_of ws u (Assign blocking target value) ≡ write_to target (val ws u value)
+pub writes_assign : (ws u : List ℕ) (blocking : Bool) (target : Target) (value : Term) →
+    writes_of ws u (Assign blocking target value) ≡ write_to target (val ws u value)
 writes_assign ws u blocking target value =
     fold_out-Stmt (List Write) (writes_of_layer ws u) (Assign blocking target value)
     ∙ ap (λ x. writes_of_layer ws u (map-Stmt Stmt (List Write) (writes_of ws u) x)) (outs-Assign blocking target value)
@@ -58,14 +59,16 @@ reads_assign blocking target value =
 -- ---- whole statements
 
 -- what holds of each assignment, and of a block where it holds of its parts, holds of each statement
-pub by_layers : (P : Stmt → Type 0) → ((parts : List Stmt) → AllByRecursion P parts → P (Block parts)) → ((blocking : Bool) (target : Target) (value : Term) → P (Assign blocking target value)) → (s : Stmt) → P s
+pub by_layers : (P : Stmt → Type 0) → ((parts : List Stmt) → AllByRecursion P parts → P (Block parts)) →
+    ((blocking : Bool) (target : Target) (value : Term) → P (Assign blocking target value)) → (s : Stmt) → P s
 by_layers P block assign = ind-Stmt P (λ x y is. subst (λ z. P (roll-Stmt z)) is (step y)) where
   step : (y : Stmt-F ((s : Stmt) × P s)) → P (roll-Stmt (map-Stmt ((s : Stmt) × P s) Stmt (λ e. e.0) y))
   step (layer.Block held) = subst P (sym (rolls-Block (map (λ e. e.0) held))) (block (map (λ e. e.0) held) (all_held P held))
   step (layer.Assign blocking target value) = subst P (sym (rolls-Assign blocking target value)) (assign blocking target value)
 
 -- each part of a statement each layer of which is so is such a statement
-block_held : (Q : Stmt-F Stmt → Type 0) (parts : List Stmt) (y : Stmt-F ((s : Stmt) × every-Stmt Q s)) → map-Stmt ((s : Stmt) × every-Stmt Q s) Stmt (λ e. e.0) y ≡ layer.Block parts → (held : List ((s : Stmt) × every-Stmt Q s)) × (map (λ e. e.0) held ≡ parts)
+block_held : (Q : Stmt-F Stmt → Type 0) (parts : List Stmt) (y : Stmt-F ((s : Stmt) × every-Stmt Q s)) →
+    map-Stmt ((s : Stmt) × every-Stmt Q s) Stmt (λ e. e.0) y ≡ layer.Block parts → (held : List ((s : Stmt) × every-Stmt Q s)) × (map (λ e. e.0) held ≡ parts)
 block_held Q parts (layer.Block held) is = (held, cc)
 block_held Q parts (layer.Assign blocking target value) is = absurd (cc)
 
@@ -75,11 +78,14 @@ every_part Q parts every =
     let held = block_held Q parts all.0 (all.1 ∙ outs-Block parts) in
     subst (AllByRecursion (every-Stmt Q)) held.1 (all_held (every-Stmt Q) held.0)
 
-pub every_assign : (Q : Stmt-F Stmt → Type 0) (blocking : Bool) (target : Target) (value : Term) → every-Stmt Q (Assign blocking target value) → Q (layer.Assign blocking target value)
+pub every_assign : (Q : Stmt-F Stmt → Type 0) (blocking : Bool) (target : Target) (value : Term) → every-Stmt Q (Assign blocking target value) →
+    Q (layer.Assign blocking target value)
 every_assign Q blocking target value every = subst Q (outs-Assign blocking target value) (every_here-Stmt Q (Assign blocking target value) every)
 
 -- what holds of each assignment with that layer, and of a block where it holds of its parts, holds of each such statement
-pub every_by_layers : (Q : Stmt-F Stmt → Type 0) (P : Stmt → Type 0) → ((parts : List Stmt) → AllByRecursion P parts → P (Block parts)) → ((blocking : Bool) (target : Target) (value : Term) → Q (layer.Assign blocking target value) → P (Assign blocking target value)) → (s : Stmt) → every-Stmt Q s → P s
+pub every_by_layers : (Q : Stmt-F Stmt → Type 0) (P : Stmt → Type 0) → ((parts : List Stmt) → AllByRecursion P parts → P (Block parts)) →
+    ((blocking : Bool) (target : Target) (value : Term) → Q (layer.Assign blocking target value) → P (Assign blocking target value)) → (s : Stmt) →
+    every-Stmt Q s → P s
 every_by_layers Q P block assign =
     by_layers (λ s. every-Stmt Q s → P s)
     (λ parts each every. block parts (all_both (λ s. every-Stmt Q s → P s) (every-Stmt Q) P (λ s f e. f e) parts each (every_part Q parts every)))
@@ -128,7 +134,8 @@ spares_to : (ws : List ℕ) (target : Target) (word x k : ℕ) → writes_bit ws
 spares_to ws (Of None name place) word x k clear = tt
 spares_to ws (Of (Some var) name place) word x k clear = (ap (λ (b : Bool). if b then Some (bit_at word k) else None) clear, tt)
 
-pub writes_spare : (ws u : List ℕ) (x k : ℕ) (s : Stmt) → AllByRecursion (λ target. writes_bit ws target x k ≡ false) (targets_of s) → AllByRecursion (SparesBit ws x k) (writes_of ws u s)
+pub writes_spare : (ws u : List ℕ) (x k : ℕ) (s : Stmt) → AllByRecursion (λ target. writes_bit ws target x k ≡ false) (targets_of s) →
+    AllByRecursion (SparesBit ws x k) (writes_of ws u s)
 writes_spare ws u x k =
     let IsClear : Target → Type 0 = λ target. writes_bit ws target x k ≡ false in
     let P : Stmt → Type 0 = λ s. AllByRecursion IsClear (targets_of s) → AllByRecursion (SparesBit ws x k) (writes_of ws u s) in

@@ -3,9 +3,8 @@ use Rattle.std.proofs.Common.{◌≡◌, ℕ, zero, suc, ◌<◌, ◌≤◌, ◌
 use Rattle.std.specs.Prelude.{not, ◌&&◌, ◌||◌, ◌==◌, nat_lt, slice_index, slice_index_or, slice_get, replicate, ◌⊎◌}
 use Rattle.std.specs.List.{AllByRecursion, flat_map, list_any}
 use Rattle.std.proofs.lemmas.Bool.Decides.{nat_tests}
-use Rattle.std.proofs.lemmas.List.{get_or_past, get_or-map, length-map}
+use Rattle.std.proofs.lemmas.List.{get_or_past}
 use Rattle.std.proofs.lemmas.List.Folds.{list_any-append}
-use Rattle.std.proofs.lemmas.Option.{slice_get_cases, slice_get_within, get_or_from_slice_get}
 use Rattle.net_ir.specs.declared.term.Term.{Term}
 use Rattle.net_ir.specs.declared.design.Role.{Role}
 use Rattle.net_ir.specs.declared.design.Role.TheVariants.{Input, Output, Inner}
@@ -26,8 +25,11 @@ use Rattle.net_ir.specs.Statement.{targets_of}
 use Rattle.net_ir.specs.Drive.{target_var, var_list, writes_bit, writes, drives, depends_on, NoneDrives, NoneWrites}
 use Rattle.net_ir.specs.Face.{stands_in}
 use Rattle.net_ir.specs.Plain.{IsWholeTo, IsWholeLayer, HaveInitialValues, IsWhole, IsInput, SparesInputs, IsBefore, AreOrdered}
-use Rattle.net_ir.specs.Marks.{mark_all, AreMarksOf, is_clear, is_input, named_by}
-use Rattle.net_ir.specs.Turns.{input_if, is_free, is_free_at, are_free, are_clear, written_by, driven_by, takes_turn}
+use Rattle.net_ir.specs.code.Marks.{mark_all, AreMarksOf, is_clear, is_input, named_by}
+use Rattle.net_ir.specs.code.Turns.{input_if, is_free, is_free_at, are_free, are_clear, written_by, driven_by, takes_turn}
+use Rattle.net_ir.proofs.Order.{ArePositive}
+use Rattle.net_ir.proofs.Unique.{positive_widths}
+use Rattle.net_ir.proofs.Passes.{all_at}
 use Rattle.net_ir.proofs.Marking.{split_items, marked_at, length_marks, same_test, other_test, same_from_test, marks_tell, block_targets, assign_targets}
 
 -- ---- tests
@@ -140,10 +142,6 @@ marks_join n xs ys marks after are is = record {
 
 -- ---- targets
 
--- each variable has a bit
-abbrev pub HaveBits : List ℕ → Type 0
-HaveBits ws = (x : ℕ) → x < length ws → 0 < slice_index ws x
-
 -- a target names a variable that is there
 abbrev pub IsThere : List ℕ → Target → Type 0
 IsThere ws (Of None name place) = ⊥
@@ -154,7 +152,7 @@ whole_there ws (Of None name place) value whole = whole
 whole_there ws (Of (Some var) name place) value whole = whole.there
 
 -- whether it writes bit 0 of a variable is whether it names that
-named_first : (ws : List ℕ) (t : Target) (x : ℕ) → HaveBits ws → IsThere ws t → writes_bit ws t x 0 ≡ stands_in x (var_list (target_var t))
+named_first : (ws : List ℕ) (t : Target) (x : ℕ) → ArePositive ws → IsThere ws t → writes_bit ws t x 0 ≡ stands_in x (var_list (target_var t))
 named_first ws (Of None name place) x bits there = absurd there
 named_first ws (Of (Some var) name place) x bits there =
     ap (λ (b : Bool). (var == x) && b) (lt_true 0 (slice_index ws var) (bits var there)) ∙ and_or (var == x) where
@@ -171,7 +169,8 @@ there_within ws (Of None name place) there = tt
 there_within ws (Of (Some var) name place) there = (there, tt)
 
 -- the same of several targets
-any_first : (ws : List ℕ) (ts : List Target) (x : ℕ) → HaveBits ws → AllByRecursion (IsThere ws) ts → list_any (λ t. writes_bit ws t x 0) ts ≡ stands_in x (named_by ts)
+any_first : (ws : List ℕ) (ts : List Target) (x : ℕ) → ArePositive ws → AllByRecursion (IsThere ws) ts →
+    list_any (λ t. writes_bit ws t x 0) ts ≡ stands_in x (named_by ts)
 any_first ws [] x bits there = refl
 any_first ws (t ∷ ts) x bits there =
     ap (λ b. b || list_any (λ t. writes_bit ws t x 0) ts) (named_first ws t x bits there.0)
@@ -180,10 +179,14 @@ any_first ws (t ∷ ts) x bits there =
 
 any_bit : (ws : List ℕ) (ts : List Target) (x k : ℕ) → list_any (λ t. writes_bit ws t x k) ts ≡ true → stands_in x (named_by ts) ≡ true
 any_bit ws [] x k hits = hits
-any_bit ws (t ∷ ts) x k hits = stands_both x (var_list (target_var t)) (named_by ts) ∙ by_case (any_bit ws ts x k) (or_either (writes_bit ws t x k) (list_any (λ t. writes_bit ws t x k) ts) hits) where
-  by_case : (list_any (λ t. writes_bit ws t x k) ts ≡ true → stands_in x (named_by ts) ≡ true) → (writes_bit ws t x k ≡ true) ⊎ (list_any (λ t. writes_bit ws t x k) ts ≡ true) → (stands_in x (var_list (target_var t)) || stands_in x (named_by ts)) ≡ true
-  by_case rest (inl here) = or_left (stands_in x (var_list (target_var t))) (stands_in x (named_by ts)) (named_bit ws t x k here)
-  by_case rest (inr later) = or_right (stands_in x (var_list (target_var t))) (stands_in x (named_by ts)) (rest later)
+any_bit ws (t ∷ ts) x k hits =
+    stands_both x (var_list (target_var t)) (named_by ts)
+    ∙ by_case (any_bit ws ts x k) (or_either (writes_bit ws t x k) (list_any (λ t. writes_bit ws t x k) ts) hits) where
+      by_case : (list_any (λ t. writes_bit ws t x k) ts ≡ true → stands_in x (named_by ts) ≡ true) →
+          (writes_bit ws t x k ≡ true) ⊎ (list_any (λ t. writes_bit ws t x k) ts ≡ true) →
+          (stands_in x (var_list (target_var t)) || stands_in x (named_by ts)) ≡ true
+      by_case rest (inl here) = or_left (stands_in x (var_list (target_var t))) (stands_in x (named_by ts)) (named_bit ws t x k here)
+      by_case rest (inr later) = or_right (stands_in x (var_list (target_var t))) (stands_in x (named_by ts)) (rest later)
 
 all_within : (ws : List ℕ) (ts : List Target) → AllByRecursion (IsThere ws) ts → Within (length ws) (named_by ts)
 all_within ws [] there = tt
@@ -202,8 +205,10 @@ held_all : (Q : Stmt-F Stmt → Type 0) (es : List ((s : Stmt) × every-Stmt Q s
 held_all Q [] = tt
 held_all Q (e ∷ es) = (e.1, held_all Q es)
 
-held_parts : (Q : Stmt-F Stmt → Type 0) (parts : List Stmt) (y : Stmt-F ((s : Stmt) × every-Stmt Q s)) → map-Stmt ((s : Stmt) × every-Stmt Q s) Stmt (λ e. e.0) y ≡ layer.Block parts → AllByRecursion (every-Stmt Q) parts
-held_parts Q parts (layer.Block held) is = subst (AllByRecursion (every-Stmt Q)) (let same : layer.Block (map (λ (e : (s : Stmt) × every-Stmt Q s). e.0) held) ≡ layer.Block parts = is in cc) (held_all Q held)
+held_parts : (Q : Stmt-F Stmt → Type 0) (parts : List Stmt) (y : Stmt-F ((s : Stmt) × every-Stmt Q s)) →
+    map-Stmt ((s : Stmt) × every-Stmt Q s) Stmt (λ e. e.0) y ≡ layer.Block parts → AllByRecursion (every-Stmt Q) parts
+held_parts Q parts (layer.Block held) is =
+    subst (AllByRecursion (every-Stmt Q)) (let same : layer.Block (map (λ (e : (s : Stmt) × every-Stmt Q s). e.0) held) ≡ layer.Block parts = is in cc) (held_all Q held)
 held_parts Q parts (layer.Assign blocking target value) is = absurd (cc)
 
 -- each part of a block that is whole is
@@ -212,10 +217,13 @@ whole_parts ws parts whole =
     let all = every_held-Stmt (IsWholeLayer ws) (Block parts) whole in
     held_parts (IsWholeLayer ws) parts all.0 (all.1 ∙ outs-Block parts)
 
-whole_assign : (ws : List ℕ) (blocking : Bool) (target : Target) (value : Term) → every-Stmt (IsWholeLayer ws) (stmt.Assign blocking target value) → IsWholeTo ws target value
-whole_assign ws blocking target value whole = (subst (IsWholeLayer ws) (outs-Assign blocking target value) (every_here-Stmt (IsWholeLayer ws) (stmt.Assign blocking target value) whole)).1
+whole_assign : (ws : List ℕ) (blocking : Bool) (target : Target) (value : Term) → every-Stmt (IsWholeLayer ws) (stmt.Assign blocking target value) →
+    IsWholeTo ws target value
+whole_assign ws blocking target value whole =
+    (subst (IsWholeLayer ws) (outs-Assign blocking target value) (every_here-Stmt (IsWholeLayer ws) (stmt.Assign blocking target value) whole)).1
 
-there_parts : (ws : List ℕ) (es : List ((s : Stmt) × HasThere ws s)) → AllByRecursion (every-Stmt (IsWholeLayer ws)) (map (λ e. e.0) es) → AllByRecursion (IsThere ws) (flat_map targets_of (map (λ e. e.0) es))
+there_parts : (ws : List ℕ) (es : List ((s : Stmt) × HasThere ws s)) → AllByRecursion (every-Stmt (IsWholeLayer ws)) (map (λ e. e.0) es) →
+    AllByRecursion (IsThere ws) (flat_map targets_of (map (λ e. e.0) es))
 there_parts ws [] whole = tt
 there_parts ws (e ∷ es) whole = all_both (IsThere ws) (targets_of e.0) (flat_map targets_of (map (λ e. e.0) es)) (e.1 whole.0) (there_parts ws es whole.1)
 
@@ -231,7 +239,7 @@ whole_targets ws = ind-Stmt (HasThere ws) (λ x y is. subst (λ z. HasThere ws (
 
 -- ---- drivers
 
-writes_first : (ws : List ℕ) (d : Driver) (x : ℕ) → HaveBits ws → IsWhole ws d → writes ws d x 0 ≡ stands_in x (written_by d)
+writes_first : (ws : List ℕ) (d : Driver) (x : ℕ) → ArePositive ws → IsWhole ws d → writes ws d x 0 ≡ stands_in x (written_by d)
 writes_first ws (Assign target value place) x bits whole = named_first ws target x bits (whole_there ws target value whole)
 writes_first ws (Clocked triggers body place) x bits whole = any_first ws (targets_of body) x bits (whole_targets ws body whole)
 
@@ -239,7 +247,7 @@ writes_named : (ws : List ℕ) (d : Driver) (x k : ℕ) → writes ws d x k ≡ 
 writes_named ws (Assign target value place) x k hits = named_bit ws target x k hits
 writes_named ws (Clocked triggers body place) x k hits = any_bit ws (targets_of body) x k hits
 
-drives_first : (ws : List ℕ) (d : Driver) (x : ℕ) → HaveBits ws → IsWhole ws d → drives ws d x 0 ≡ stands_in x (driven_by d)
+drives_first : (ws : List ℕ) (d : Driver) (x : ℕ) → ArePositive ws → IsWhole ws d → drives ws d x 0 ≡ stands_in x (driven_by d)
 drives_first ws (Assign target value place) x bits whole = named_first ws target x bits (whole_there ws target value whole)
 drives_first ws (Clocked triggers body place) x bits whole = refl
 
@@ -259,22 +267,26 @@ driven_within ws (Clocked triggers body place) whole = tt
 
 all_written_within : (ws : List ℕ) (ds : List Driver) → AllByRecursion (IsWhole ws) ds → Within (length ws) (flat_map written_by ds)
 all_written_within ws [] wholes = tt
-all_written_within ws (d ∷ ds) wholes = within_both (length ws) (written_by d) (flat_map written_by ds) (written_within ws d wholes.0) (all_written_within ws ds wholes.1)
+all_written_within ws (d ∷ ds) wholes =
+    within_both (length ws) (written_by d) (flat_map written_by ds) (written_within ws d wholes.0) (all_written_within ws ds wholes.1)
 
 all_driven_within : (ws : List ℕ) (ds : List Driver) → AllByRecursion (IsWhole ws) ds → Within (length ws) (flat_map driven_by ds)
 all_driven_within ws [] wholes = tt
-all_driven_within ws (d ∷ ds) wholes = within_both (length ws) (driven_by d) (flat_map driven_by ds) (driven_within ws d wholes.0) (all_driven_within ws ds wholes.1)
+all_driven_within ws (d ∷ ds) wholes =
+    within_both (length ws) (driven_by d) (flat_map driven_by ds) (driven_within ws d wholes.0) (all_driven_within ws ds wholes.1)
 
 -- none writes what none names
 none_writes : (ws : List ℕ) (ds : List Driver) (x k : ℕ) → stands_in x (flat_map written_by ds) ≡ false → NoneWrites ws ds x k
 none_writes ws [] x k clear = tt
 none_writes ws (d ∷ ds) x k clear =
-    let both : (stands_in x (written_by d) || stands_in x (flat_map written_by ds)) ≡ false = sym (stands_both x (written_by d) (flat_map written_by ds)) ∙ clear in (
+    let both : (stands_in x (written_by d) || stands_in x (flat_map written_by ds)) ≡ false =
+    sym (stands_both x (written_by d) (flat_map written_by ds)) ∙ clear in (
       false_by (stands_in x (written_by d)) (writes ws d x k) (writes_named ws d x k) (or_front (stands_in x (written_by d)) (stands_in x (flat_map written_by ds)) both),
       none_writes ws ds x k (or_back (stands_in x (written_by d)) (stands_in x (flat_map written_by ds)) both),
     )
 
-none_named : (ws : List ℕ) (ds : List Driver) (x : ℕ) → HaveBits ws → AllByRecursion (IsWhole ws) ds → NoneWrites ws ds x 0 → stands_in x (flat_map written_by ds) ≡ false
+none_named : (ws : List ℕ) (ds : List Driver) (x : ℕ) → ArePositive ws → AllByRecursion (IsWhole ws) ds → NoneWrites ws ds x 0 →
+    stands_in x (flat_map written_by ds) ≡ false
 none_named ws [] x bits wholes none = refl
 none_named ws (d ∷ ds) x bits wholes none =
     stands_both x (written_by d) (flat_map written_by ds)
@@ -283,12 +295,14 @@ none_named ws (d ∷ ds) x bits wholes none =
 none_drives : (ws : List ℕ) (ds : List Driver) (x k : ℕ) → stands_in x (flat_map driven_by ds) ≡ false → NoneDrives ws ds x k
 none_drives ws [] x k clear = tt
 none_drives ws (d ∷ ds) x k clear =
-    let both : (stands_in x (driven_by d) || stands_in x (flat_map driven_by ds)) ≡ false = sym (stands_both x (driven_by d) (flat_map driven_by ds)) ∙ clear in (
+    let both : (stands_in x (driven_by d) || stands_in x (flat_map driven_by ds)) ≡ false =
+    sym (stands_both x (driven_by d) (flat_map driven_by ds)) ∙ clear in (
       false_by (stands_in x (driven_by d)) (drives ws d x k) (drives_named ws d x k) (or_front (stands_in x (driven_by d)) (stands_in x (flat_map driven_by ds)) both),
       none_drives ws ds x k (or_back (stands_in x (driven_by d)) (stands_in x (flat_map driven_by ds)) both),
     )
 
-none_driven : (ws : List ℕ) (ds : List Driver) (x : ℕ) → HaveBits ws → AllByRecursion (IsWhole ws) ds → NoneDrives ws ds x 0 → stands_in x (flat_map driven_by ds) ≡ false
+none_driven : (ws : List ℕ) (ds : List Driver) (x : ℕ) → ArePositive ws → AllByRecursion (IsWhole ws) ds → NoneDrives ws ds x 0 →
+    stands_in x (flat_map driven_by ds) ≡ false
 none_driven ws [] x bits wholes none = refl
 none_driven ws (d ∷ ds) x bits wholes none =
     stands_both x (driven_by d) (flat_map driven_by ds)
@@ -313,11 +327,13 @@ no_input vars x (Some v) is inner = by_role v.role refl where
   by_role Inner e = refl
   by_role Input e = absurd (inner (v, is, e))
 
-free_named : (vars : List Var) (marks : List Bool) (t : Target) → is_free_at vars marks (target_var t) ≡ true → AllByRecursion (λ x. is_free vars marks x ≡ true) (var_list (target_var t))
+free_named : (vars : List Var) (marks : List Bool) (t : Target) → is_free_at vars marks (target_var t) ≡ true →
+    AllByRecursion (λ x. is_free vars marks x ≡ true) (var_list (target_var t))
 free_named vars marks (Of None name place) free = tt
 free_named vars marks (Of (Some var) name place) free = (free, tt)
 
-free_all : (vars : List Var) (marks : List Bool) (ts : List Target) → are_free vars marks ts ≡ true → AllByRecursion (λ x. is_free vars marks x ≡ true) (named_by ts)
+free_all : (vars : List Var) (marks : List Bool) (ts : List Target) → are_free vars marks ts ≡ true →
+    AllByRecursion (λ x. is_free vars marks x ≡ true) (named_by ts)
 free_all vars marks [] free = tt
 free_all vars marks (t ∷ ts) free =
     all_both (λ x. is_free vars marks x ≡ true) (var_list (target_var t)) (named_by ts)
@@ -325,15 +341,19 @@ free_all vars marks (t ∷ ts) free =
     (free_all vars marks ts (and_back (is_free_at vars marks (target_var t)) (are_free vars marks ts) free))
 
 -- in its turn a driver's variables are free
-turn_frees : (vars : List Var) (d : Driver) (written driven : List Bool) → takes_turn vars d written driven ≡ true → AllByRecursion (λ x. is_free vars written x ≡ true) (written_by d)
-turn_frees vars (Assign target value at) written driven taken = free_named vars written target (and_front (is_free_at vars written (target_var target)) (are_clear (mark_all (var_list (target_var target)) driven) (reads_of value)) taken)
+turn_frees : (vars : List Var) (d : Driver) (written driven : List Bool) → takes_turn vars d written driven ≡ true →
+    AllByRecursion (λ x. is_free vars written x ≡ true) (written_by d)
+turn_frees vars (Assign target value at) written driven taken =
+    free_named vars written target (and_front (is_free_at vars written (target_var target)) (are_clear (mark_all (var_list (target_var target)) driven) (reads_of value)) taken)
 turn_frees vars (Clocked triggers body at) written driven taken = free_all vars written (targets_of body) taken
 
-named_free : (ws : List ℕ) (vars : List Var) (marks : List Bool) (t : Target) → IsThere ws t → ((x : ℕ) → stands_in x (var_list (target_var t)) ≡ true → is_free vars marks x ≡ true) → is_free_at vars marks (target_var t) ≡ true
+named_free : (ws : List ℕ) (vars : List Var) (marks : List Bool) (t : Target) → IsThere ws t →
+    ((x : ℕ) → stands_in x (var_list (target_var t)) ≡ true → is_free vars marks x ≡ true) → is_free_at vars marks (target_var t) ≡ true
 named_free ws vars marks (Of None name place) there free = absurd there
 named_free ws vars marks (Of (Some var) name place) there free = free var (or_left (var == var) false (same_test var var refl))
 
-all_free : (ws : List ℕ) (vars : List Var) (marks : List Bool) (ts : List Target) → AllByRecursion (IsThere ws) ts → ((x : ℕ) → stands_in x (named_by ts) ≡ true → is_free vars marks x ≡ true) → are_free vars marks ts ≡ true
+all_free : (ws : List ℕ) (vars : List Var) (marks : List Bool) (ts : List Target) → AllByRecursion (IsThere ws) ts →
+    ((x : ℕ) → stands_in x (named_by ts) ≡ true → is_free vars marks x ≡ true) → are_free vars marks ts ≡ true
 all_free ws vars marks [] there free = refl
 all_free ws vars marks (t ∷ ts) there free =
     and_true (is_free_at vars marks (target_var t)) (are_free vars marks ts)
@@ -341,45 +361,57 @@ all_free ws vars marks (t ∷ ts) there free =
     (all_free ws vars marks ts there.1 (λ x stands. free x (stands_both x (var_list (target_var t)) (named_by ts) ∙ or_right (stands_in x (var_list (target_var t))) (stands_in x (named_by ts)) stands)))
 
 -- nothing drives what has no mark
-clear_reads : (ws : List ℕ) (ds : List Driver) (marks : List Bool) (xs : List ℕ) → AllByRecursion (IsWhole ws) ds → AreMarksOf (length ws) (flat_map driven_by ds) marks → are_clear marks xs ≡ true → AllByRecursion (λ x. (k : ℕ) → NoneDrives ws ds x k) xs
+clear_reads : (ws : List ℕ) (ds : List Driver) (marks : List Bool) (xs : List ℕ) → AllByRecursion (IsWhole ws) ds →
+    AreMarksOf (length ws) (flat_map driven_by ds) marks → are_clear marks xs ≡ true → AllByRecursion (λ x. (k : ℕ) → NoneDrives ws ds x k) xs
 clear_reads ws ds marks [] wholes are clear = tt
 clear_reads ws ds marks (x ∷ xs) wholes are clear =
     let here : slice_index_or marks x false ≡ false = not_true (slice_index_or marks x false) (and_front (is_clear marks x) (are_clear marks xs) clear) in
-    let none : stands_in x (flat_map driven_by ds) ≡ false = sym (tell_all (length ws) (flat_map driven_by ds) marks x are (all_driven_within ws ds wholes)) ∙ here in
+    let none : stands_in x (flat_map driven_by ds) ≡ false =
+    sym (tell_all (length ws) (flat_map driven_by ds) marks x are (all_driven_within ws ds wholes)) ∙ here in
     ((λ k. none_drives ws ds x k none), clear_reads ws ds marks xs wholes are (and_back (is_clear marks x) (are_clear marks xs) clear))
 
 -- what nothing drives has no mark
-reads_clear : (ws : List ℕ) (ds : List Driver) (marks : List Bool) (xs : List ℕ) → HaveBits ws → AllByRecursion (IsWhole ws) ds → AreMarksOf (length ws) (flat_map driven_by ds) marks → AllByRecursion (λ x. (k : ℕ) → NoneDrives ws ds x k) xs → are_clear marks xs ≡ true
+reads_clear : (ws : List ℕ) (ds : List Driver) (marks : List Bool) (xs : List ℕ) → ArePositive ws → AllByRecursion (IsWhole ws) ds →
+    AreMarksOf (length ws) (flat_map driven_by ds) marks → AllByRecursion (λ x. (k : ℕ) → NoneDrives ws ds x k) xs → are_clear marks xs ≡ true
 reads_clear ws ds marks [] bits wholes are none = refl
 reads_clear ws ds marks (x ∷ xs) bits wholes are none =
-    let here : is_clear marks x ≡ true = true_not (slice_index_or marks x false) (tell_all (length ws) (flat_map driven_by ds) marks x are (all_driven_within ws ds wholes) ∙ none_driven ws ds x bits wholes (none.0 0)) in
+    let here : is_clear marks x ≡ true =
+    true_not (slice_index_or marks x false) (tell_all (length ws) (flat_map driven_by ds) marks x are (all_driven_within ws ds wholes) ∙ none_driven ws ds x bits wholes (none.0 0)) in
     and_true (is_clear marks x) (are_clear marks xs) here (reads_clear ws ds marks xs bits wholes are none.1)
 
-turn_settles : (vars : List Var) (ws : List ℕ) (d : Driver) (later : List Driver) (written driven : List Bool) → AllByRecursion (IsWhole ws) (d ∷ later) → AreTurnMarks ws later written driven → takes_turn vars d written driven ≡ true → AllByRecursion (λ x. (k : ℕ) → NoneDrives ws (d ∷ later) x k) (depends_on d)
+turn_settles : (vars : List Var) (ws : List ℕ) (d : Driver) (later : List Driver) (written driven : List Bool) → AllByRecursion (IsWhole ws) (d ∷ later) →
+    AreTurnMarks ws later written driven → takes_turn vars d written driven ≡ true →
+    AllByRecursion (λ x. (k : ℕ) → NoneDrives ws (d ∷ later) x k) (depends_on d)
 turn_settles vars ws (Clocked triggers body at) later written driven wholes are taken = tt
 turn_settles vars ws (Assign target value at) later written driven wholes are taken =
     let d : Driver = Assign target value at in
     clear_reads ws (d ∷ later) (mark_all (driven_by d) driven) (reads_of value) wholes (marks_join (length ws) (driven_by d) (flat_map driven_by later) driven (mark_all (driven_by d) driven) are.driven_is refl)
     (and_back (is_free_at vars written (target_var target)) (are_clear (mark_all (driven_by d) driven) (reads_of value)) taken)
 
-turn_sound : (vars : List Var) (d : Driver) (later : List Driver) (written driven : List Bool) → AllByRecursion (IsWhole (widths_of vars)) (d ∷ later) → AreTurnMarks (widths_of vars) later written driven → takes_turn vars d written driven ≡ true → SparesInputs vars d × IsBefore (widths_of vars) d later
+turn_sound : (vars : List Var) (d : Driver) (later : List Driver) (written driven : List Bool) → AllByRecursion (IsWhole (widths_of vars)) (d ∷ later) →
+    AreTurnMarks (widths_of vars) later written driven → takes_turn vars d written driven ≡ true → SparesInputs vars d × IsBefore (widths_of vars) d later
 turn_sound vars d later written driven wholes are taken =
     let ws = widths_of vars in
-    let free : (x k : ℕ) → writes ws d x k ≡ true → is_free vars written x ≡ true = λ x k hits. stands_all (λ y. is_free vars written y ≡ true) x (written_by d) (turn_frees vars d written driven taken) (writes_named ws d x k hits) in (
+    let free : (x k : ℕ) → writes ws d x k ≡ true → is_free vars written x ≡ true =
+    λ x k hits. stands_all (λ y. is_free vars written y ≡ true) x (written_by d) (turn_frees vars d written driven taken) (writes_named ws d x k hits) in (
       (λ x k hits input.
-          let fed : input_if (slice_get vars x) ≡ false = not_true (input_if (slice_get vars x)) (and_back (is_clear written x) (not (input_if (slice_get vars x))) (free x k hits)) in
+          let fed : input_if (slice_get vars x) ≡ false =
+          not_true (input_if (slice_get vars x)) (and_back (is_clear written x) (not (input_if (slice_get vars x))) (free x k hits)) in
           let clash : true ≡ false = sym (input_at vars x input) ∙ fed in
           cc),
       record {
         alone = λ x k hits.
-            let clear : slice_index_or written x false ≡ false = not_true (slice_index_or written x false) (and_front (is_clear written x) (not (input_if (slice_get vars x))) (free x k hits)) in
+            let clear : slice_index_or written x false ≡ false =
+            not_true (slice_index_or written x false) (and_front (is_clear written x) (not (input_if (slice_get vars x))) (free x k hits)) in
             none_writes ws later x k (sym (tell_all (length ws) (flat_map written_by later) written x are.written_is (all_written_within ws later wholes.1)) ∙ clear);
         settled = turn_settles vars ws d later written driven wholes are taken;
       },
     )
 
 -- what a driver writes is free, where it spares inputs and no later one writes it
-spared_free : (vars : List Var) (d : Driver) (later : List Driver) (written driven : List Bool) (x : ℕ) → HaveBits (widths_of vars) → AllByRecursion (IsWhole (widths_of vars)) (d ∷ later) → AreTurnMarks (widths_of vars) later written driven → SparesInputs vars d → IsBefore (widths_of vars) d later → stands_in x (written_by d) ≡ true → is_free vars written x ≡ true
+spared_free : (vars : List Var) (d : Driver) (later : List Driver) (written driven : List Bool) (x : ℕ) → ArePositive (widths_of vars) →
+    AllByRecursion (IsWhole (widths_of vars)) (d ∷ later) → AreTurnMarks (widths_of vars) later written driven → SparesInputs vars d →
+    IsBefore (widths_of vars) d later → stands_in x (written_by d) ≡ true → is_free vars written x ≡ true
 spared_free vars d later written driven x bits wholes are spares before stands =
     let ws = widths_of vars in
     let hits : writes ws d x 0 ≡ true = writes_first ws d x bits wholes.0 ∙ stands in
@@ -387,7 +419,9 @@ spared_free vars d later written driven x bits wholes are spares before stands =
     (true_not (slice_index_or written x false) (tell_all (length ws) (flat_map written_by later) written x are.written_is (all_written_within ws later wholes.1) ∙ none_named ws later x bits wholes.1 (before.alone x 0 hits)))
     (true_not (input_if (slice_get vars x)) (no_input vars x (slice_get vars x) refl (spares x 0 hits)))
 
-turn_complete : (vars : List Var) (d : Driver) (later : List Driver) (written driven : List Bool) → HaveBits (widths_of vars) → AllByRecursion (IsWhole (widths_of vars)) (d ∷ later) → AreTurnMarks (widths_of vars) later written driven → SparesInputs vars d → IsBefore (widths_of vars) d later → takes_turn vars d written driven ≡ true
+turn_complete : (vars : List Var) (d : Driver) (later : List Driver) (written driven : List Bool) → ArePositive (widths_of vars) →
+    AllByRecursion (IsWhole (widths_of vars)) (d ∷ later) → AreTurnMarks (widths_of vars) later written driven → SparesInputs vars d →
+    IsBefore (widths_of vars) d later → takes_turn vars d written driven ≡ true
 turn_complete vars (Clocked triggers body at) later written driven bits wholes are spares before =
     let ws = widths_of vars in
     all_free ws vars written (targets_of body) (whole_targets ws body wholes.0) (λ x stands. spared_free vars (Clocked triggers body at) later written driven x bits wholes are spares before stands)
@@ -400,44 +434,20 @@ turn_complete vars (Assign target value at) later written driven bits wholes are
 
 -- ---- the loop over the drivers
 
-all_at : {X : Type 0} (P : X → Type 0) (xs : List X) (i : ℕ) (x : X) → AllByRecursion P xs → i < length xs → x ≡ get_or xs i x → P x
-all_at P [] i x all within is = absurd (omega arith)
-all_at P (y ∷ xs) zero x all within is = subst P (sym is) all.0
-all_at P (y ∷ xs) (suc i) x all within is = all_at P xs i x all.1 (omega arith) is
-
-all_get : {X : Type 0} (P : X → Type 0) (xs : List X) (i : ℕ) (x : X) → AllByRecursion P xs → slice_get xs i ≡ Some x → P x
-all_get P [] i x all is = absurd (let clash : None ≡ Some x = is in cc)
-all_get P (y ∷ xs) zero x all is = subst P (let same : Some y ≡ Some x = is in cc) all.0
-all_get P (y ∷ xs) (suc i) x all is = all_get P xs i x all.1 is
-
-pub width_is : (vars : List Var) (x : ℕ) (v : Var) → slice_get vars x ≡ Some v → slice_index (widths_of vars) x ≡ v.width
-width_is vars x v is = get_or-map (λ (w : Var). w.width) vars x v 0 (slice_get_within vars x v is) ∙ ap (λ (w : Var). w.width) (get_or_from_slice_get vars x v v is)
-
--- variables with initial values have bits
-have_bits : (vars : List Var) → HaveInitialValues vars → HaveBits (widths_of vars)
-have_bits vars has x within = by_case (slice_get_cases vars x).1 where
-  by_case : ((v : Var) × (x < length vars) × (slice_get vars x ≡ Some v) × (get_or vars x v ≡ v)) ⊎ ((length vars ≤ x) × (slice_get vars x ≡ None)) → 0 < slice_index (widths_of vars) x
-  by_case (inl found) =
-      let v = found.0 in
-      let same : v.init.width ≡ v.width = all_get (λ (w : Var). w.init.width ≡ w.width) vars x v has found.2 in
-      let one : 1 ≤ v.init.width = v.init.positive in
-      subst (λ n. 0 < n) (sym (width_is vars x v found.2)) (omega arith)
-  by_case (inr past) =
-      let far : length vars ≤ x = past.0 in
-      let near : x < length vars = subst (λ n. x < n) (length-map vars (λ v. v.width)) within in
-      absurd (omega arith)
-
-ordered_at : (ws : List ℕ) (drivers : List Driver) (i : ℕ) (d : Driver) → AreOrdered ws drivers → i < length drivers → d ≡ get_or drivers i d → IsBefore ws d (drop (i + 1) drivers)
+ordered_at : (ws : List ℕ) (drivers : List Driver) (i : ℕ) (d : Driver) → AreOrdered ws drivers → i < length drivers → d ≡ get_or drivers i d →
+    IsBefore ws d (drop (i + 1) drivers)
 ordered_at ws [] i d ordered within is = absurd (omega arith)
 ordered_at ws (e ∷ drivers) zero d ordered within is = subst (λ x. IsBefore ws x drivers) (sym is) ordered.0
-ordered_at ws (e ∷ drivers) (suc i) d ordered within is = subst (λ n. IsBefore ws d (drop n (e ∷ drivers))) (sym (add-one (suc i))) (subst (λ n. IsBefore ws d (drop n drivers)) (add-one i) (ordered_at ws drivers i d ordered.1 (omega arith) is))
+ordered_at ws (e ∷ drivers) (suc i) d ordered within is =
+    subst (λ n. IsBefore ws d (drop n (e ∷ drivers))) (sym (add-one (suc i))) (subst (λ n. IsBefore ws d (drop n drivers)) (add-one i) (ordered_at ws drivers i d ordered.1 (omega arith) is))
 
 all_dropped : {X : Type 0} (P : X → Type 0) (xs : List X) (i : ℕ) → AllByRecursion P xs → AllByRecursion P (drop i xs)
 all_dropped P xs zero all = all
 all_dropped P [] (suc i) all = tt
 all_dropped P (x ∷ xs) (suc i) all = all_dropped P xs i all.1
 
-pub first_marks : (ws : List ℕ) (written driven : List Bool) (n : ℕ) → written ≡ replicate n false → driven ≡ replicate n false → n ≡ length ws → AreTurnMarks ws [] written driven
+pub first_marks : (ws : List ℕ) (written driven : List Bool) (n : ℕ) → written ≡ replicate n false → driven ≡ replicate n false → n ≡ length ws →
+    AreTurnMarks ws [] written driven
 first_marks ws written driven n written_clear driven_clear long = record {
   written_is = subst (λ m. AreMarksOf m [] written) long (marks_tell n [] written written written_clear refl);
   driven_is = subst (λ m. AreMarksOf m [] driven) long (marks_tell n [] driven driven driven_clear refl);
@@ -446,7 +456,8 @@ first_marks ws written driven n written_clear driven_clear long = record {
 before_suc : (t : ℕ) → 0 < t → (t - 1) + 1 ≡ t
 before_suc t some = omega arith
 
-split_before : (drivers : List Driver) (t : ℕ) (d : Driver) → 0 < t → t ≤ length drivers → d ≡ get_or drivers (t - 1) d → drop (t - 1) drivers ≡ d ∷ drop t drivers
+split_before : (drivers : List Driver) (t : ℕ) (d : Driver) → 0 < t → t ≤ length drivers → d ≡ get_or drivers (t - 1) d →
+    drop (t - 1) drivers ≡ d ∷ drop t drivers
 split_before drivers t d some within is =
     split_items drivers (t - 1) d (omega arith) is ∙ ap (λ n. d ∷ drop n drivers) (before_suc t some)
 
@@ -457,7 +468,10 @@ pub record AreTaken (vars : List Var) (drivers : List Driver) (written driven : 
   pub ordered : AreOrdered (widths_of vars) drivers
 
 -- one turn more
-pub turn_step : (vars : List Var) (drivers : List Driver) (t : ℕ) (d : Driver) (written driven after_written after_driven : List Bool) → AllByRecursion (IsWhole (widths_of vars)) drivers → 0 < t → t ≤ length drivers → d ≡ get_or drivers (t - 1) d → AreTaken vars (drop t drivers) written driven → takes_turn vars d written driven ≡ true → after_written ≡ mark_all (written_by d) written → after_driven ≡ mark_all (driven_by d) driven → AreTaken vars (drop (t - 1) drivers) after_written after_driven
+pub turn_step : (vars : List Var) (drivers : List Driver) (t : ℕ) (d : Driver) (written driven after_written after_driven : List Bool) →
+    AllByRecursion (IsWhole (widths_of vars)) drivers → 0 < t → t ≤ length drivers → d ≡ get_or drivers (t - 1) d →
+    AreTaken vars (drop t drivers) written driven → takes_turn vars d written driven ≡ true → after_written ≡ mark_all (written_by d) written →
+    after_driven ≡ mark_all (driven_by d) driven → AreTaken vars (drop (t - 1) drivers) after_written after_driven
 turn_step vars drivers t d written driven after_written after_driven wholes some within is taken takes marks_written marks_driven =
     let ws = widths_of vars in
     let later = drop t drivers in
@@ -474,12 +488,17 @@ turn_step vars drivers t d written driven after_written after_driven wholes some
     })
 
 -- a turn that can't be taken
-pub turn_fails : (vars : List Var) (drivers : List Driver) (t : ℕ) (d : Driver) (written driven : List Bool) → HaveInitialValues vars → AllByRecursion (IsWhole (widths_of vars)) drivers → 0 < t → t ≤ length drivers → d ≡ get_or drivers (t - 1) d → AreTaken vars (drop t drivers) written driven → takes_turn vars d written driven ≡ false → AllByRecursion (SparesInputs vars) drivers × AreOrdered (widths_of vars) drivers → ⊥
+pub turn_fails : (vars : List Var) (drivers : List Driver) (t : ℕ) (d : Driver) (written driven : List Bool) → HaveInitialValues vars →
+    AllByRecursion (IsWhole (widths_of vars)) drivers → 0 < t → t ≤ length drivers → d ≡ get_or drivers (t - 1) d →
+    AreTaken vars (drop t drivers) written driven → takes_turn vars d written driven ≡ false →
+    AllByRecursion (SparesInputs vars) drivers × AreOrdered (widths_of vars) drivers → ⊥
 turn_fails vars drivers t d written driven has wholes some within is taken takes fine =
     let ws = widths_of vars in
     let later = drop t drivers in
     let split : drop (t - 1) drivers ≡ d ∷ later = split_before drivers t d some within is in
     let both : AllByRecursion (IsWhole ws) (d ∷ later) = subst (AllByRecursion (IsWhole ws)) split (all_dropped (IsWhole ws) drivers (t - 1) wholes) in
-    let before : IsBefore ws d later = subst (λ n. IsBefore ws d (drop n drivers)) (before_suc t some) (ordered_at ws drivers (t - 1) d fine.1 (omega arith) is) in
-    let yes : takes_turn vars d written driven ≡ true = turn_complete vars d later written driven (have_bits vars has) both taken.marks (all_at (SparesInputs vars) drivers (t - 1) d fine.0 (omega arith) is) before in
+    let before : IsBefore ws d later =
+    subst (λ n. IsBefore ws d (drop n drivers)) (before_suc t some) (ordered_at ws drivers (t - 1) d fine.1 (omega arith) is) in
+    let yes : takes_turn vars d written driven ≡ true =
+    turn_complete vars d later written driven (positive_widths vars has) both taken.marks (all_at (SparesInputs vars) drivers (t - 1) d fine.0 (omega arith) is) before in
     absurd (let clash : true ≡ false = sym yes ∙ takes in cc)

@@ -2,12 +2,13 @@ pub mod Value
 pub mod Statement
 pub mod Drive
 pub mod Face
+pub mod Register
 pub mod Run
 pub mod Solution
 pub mod Stepping
 pub mod Idle
-pub mod Plain
-pub mod Pass
-pub mod Marks
-pub mod Turns
 pub mod Trace
+pub mod Facts
+pub mod Benched
+pub mod Plain
+pub mod code

@@ -21,6 +21,7 @@ use Rattle.net_ir.specs.Value.{widths_of, size}
 use Rattle.net_ir.specs.Statement.{targets_of}
 use Rattle.net_ir.specs.Drive.{target_var, writes, depends_on, NoneDrives, NoneWrites}
 use Rattle.net_ir.specs.Face.{stands_in, all_reads}
+use Rattle.net_ir.specs.Facts.{HasPortsFirst}
 
 -- one layer of a lawful term: a read names a variable that is there, an operation has the operands of its row
 abbrev pub IsLawfulLayer : List ℕ → Term-F Term → Type 0
@@ -101,7 +102,8 @@ WritesNoNet vars (Clocked triggers body place) = AllByRecursion (λ (t : Target)
 abbrev pub HaveInitialValues : List Var → Type 0
 HaveInitialValues vars = AllByRecursion (λ v. v.init.width ≡ v.width) vars
 
--- the drivers can be taken in the order of the text, clocks are apart from what expressions read, and no process writes a net
+-- the drivers can be taken in the order of the text, clocks are apart from what expressions read, no process writes a net, and the
+-- ports are the first variables
 pub record IsPlain (spec : Spec) : Type 0 where
   pub vars : HaveInitialValues spec.vars
   pub whole : AllByRecursion (IsWhole (widths_of spec.vars)) spec.drivers
@@ -109,3 +111,4 @@ pub record IsPlain (spec : Spec) : Type 0 where
   pub ordered : AreOrdered (widths_of spec.vars) spec.drivers
   pub clocks : AllByRecursion (HasPlainClocks spec) spec.drivers
   pub nets : AllByRecursion (WritesNoNet spec.vars) spec.drivers
+  pub ports : HasPortsFirst spec

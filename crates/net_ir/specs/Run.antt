@@ -1,22 +1,19 @@
--- States of a design, and edges of clocks (IEEE 1800-2017, 4.4, 4.5 and 9.4.2, for one change of the outside at a time).
+-- The first state of a design, and edges of clocks (IEEE 1800-2017, 4.4, 4.5 and 9.4.2, for one change of the outside at a time).
 use Rattle.std.specs.Prelude.{ℕ, Bool, true, false, ◌==◌, ◌&&◌, List, [], map, Option, None, Some, slice_index, if◌then◌else◌}
 use Rattle.std.specs.List.{flat_map, list_any}
 use Rattle.net_ir.specs.declared.design.Trigger.{Trigger}
 use Rattle.net_ir.specs.declared.design.Driver.{Driver}
 use Rattle.net_ir.specs.declared.design.Driver.TheVariants.{Assign, Clocked}
 use Rattle.net_ir.specs.declared.design.Spec.{Spec}
+use Rattle.sv_base.specs.Meaning.{State}
 use Rattle.net_ir.specs.Value.{widths_of}
+use Rattle.net_ir.specs.Face.{ports_of}
+use Rattle.net_ir.specs.Register.{initial_words}
 use Rattle.net_ir.specs.Statement.{Write, writes_of}
 
--- what lasts from step to step: the levels of the inputs and the words of the registers, each a word for each variable, of
--- which those of inputs and those of register bits count
-pub record State : Type 0 where
-  pub inputs : List ℕ
-  pub registers : List ℕ
-
--- the state before any step: every input is 0, and every register has its initial value
+-- the state before any step: every input is 0, and every register has its initial word
 abbrev pub start : Spec → State
-start spec = record { inputs = map (λ _. 0) spec.vars; registers = map (λ v. v.init.word) spec.vars }
+start spec = record { inputs = map (λ _. 0) (ports_of spec); registers = initial_words spec }
 
 -- whether a change of level is an edge: from 0 to 1, or from 1 to 0 where a falling one is meant
 abbrev pub is_edge : Bool → ℕ → ℕ → Bool

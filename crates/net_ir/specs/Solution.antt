@@ -1,5 +1,5 @@
 -- The solution of a design: what each net equals. It names no order.
-use Rattle.std.specs.Prelude.{◌≡◌, ℕ, ◌<◌, ◌^◌, true, List, Some, length, slice_index, slice_get}
+use Rattle.std.specs.Prelude.{◌≡◌, ℕ, ◌+◌, ◌<◌, ◌^◌, List, Some, length, slice_index, slice_get}
 use Rattle.std.specs.List.{AllByRecursion}
 use Rattle.std.specs.Int.{bit_at}
 use Rattle.net_ir.specs.declared.design.Role.TheVariants.{Input}
@@ -7,8 +7,9 @@ use Rattle.net_ir.specs.declared.design.Var.{Var}
 use Rattle.net_ir.specs.declared.design.Driver.{Driver}
 use Rattle.net_ir.specs.declared.design.Spec.{Spec}
 use Rattle.net_ir.specs.Value.{widths_of}
-use Rattle.net_ir.specs.Drive.{gives, holds, NoneWrites}
-use Rattle.net_ir.specs.Run.{State}
+use Rattle.sv_base.specs.Meaning.{State}
+use Rattle.net_ir.specs.Drive.{gives, NoneWrites}
+use Rattle.net_ir.specs.Register.{Register, registers_of}
 
 -- there is a word for each variable, and it fits the variable's width
 pub record IsValuation (vars : List Var) (u : List ℕ) : Type 0 where
@@ -19,9 +20,9 @@ pub record IsValuation (vars : List Var) (u : List ℕ) : Type 0 where
 abbrev pub IsDriven : List ℕ → List ℕ → Driver → Type 0
 IsDriven ws u d = (x k bit : ℕ) → gives ws d u x k ≡ Some bit → bit_at (slice_index u x) k ≡ bit
 
--- the bits of a driver's registers are as they are held
-abbrev pub IsHeld : List ℕ → List ℕ → List ℕ → Driver → Type 0
-IsHeld ws held u d = (x k : ℕ) → holds ws d x k ≡ true → bit_at (slice_index u x) k ≡ bit_at (slice_index held x) k
+-- the bits of register i stand in the valuation as its word has them
+abbrev pub IsHeld : List ℕ → List ℕ → ℕ → Register → Type 0
+IsHeld held u i r = (k : ℕ) → k < r.width → bit_at (slice_index u r.var) (r.low + k) ≡ bit_at (slice_index held i) k
 
 -- u solves the design in this state
 pub record Solves (spec : Spec) (state : State) (u : List ℕ) : Type 0 where
@@ -29,7 +30,7 @@ pub record Solves (spec : Spec) (state : State) (u : List ℕ) : Type 0 where
   -- each input is as it is set
   pub set : (x : ℕ) (v : Var) → slice_get spec.vars x ≡ Some v → v.role ≡ Input → slice_index u x ≡ slice_index state.inputs x
   -- each bit of a register is as the register has it
-  pub registered : AllByRecursion (IsHeld (widths_of spec.vars) state.registers u) spec.drivers
+  pub registered : (i : ℕ) (r : Register) → slice_get (registers_of spec) i ≡ Some r → IsHeld state.registers u i r
   -- each bit that a driver gives at all times is what it gives on u
   pub driven : AllByRecursion (IsDriven (widths_of spec.vars) u) spec.drivers
   -- each other bit has its initial value

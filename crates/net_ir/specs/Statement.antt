@@ -41,9 +41,9 @@ abbrev pub last_bit : List ℕ → List Write → ℕ → ℕ → Option ℕ
 last_bit ws [] x k = None
 last_bit ws (w ∷ writes) x k = later_or (last_bit ws writes x k) (written_bit ws w x k)
 
--- the next value of bit k of variable x: that of its last write, else that of the word that was kept (4.9.4)
+-- the next value of bit k of variable x: that of its last write, else the bit that was kept (4.9.4)
 abbrev pub bit_after : List ℕ → List Write → ℕ → ℕ → ℕ → ℕ
-bit_after ws writes x k kept = unwrap_or (last_bit ws writes x k) (bit_at kept k)
+bit_after ws writes x k kept = unwrap_or (last_bit ws writes x k) kept
 
 abbrev pub targets_of_layer : Stmt-F (List Target) → List Target
 targets_of_layer (Block parts) = flat_map (λ part. part) parts

@@ -1,28 +1,24 @@
 -- The trace of a design over steps.
-use Rattle.std.specs.Prelude.{◌≡◌, ℕ, ◌+◌, List, [], ◌∷◌, ◌++◌}
+use Rattle.std.specs.Prelude.{◌≡◌, ℕ, List, length, take}
 use Rattle.net_ir.specs.declared.design.Spec.{Spec}
 use Rattle.sv_base.specs.Steps.{Step}
-use Rattle.sv_base.specs.TraceText.{header, line}
+use Rattle.sv_base.specs.Runs.{Runs}
+use Rattle.sv_base.specs.Meaning.{State}
+use Rattle.sv_base.specs.TraceText.{trace_text}
 use Rattle.net_ir.specs.Face.{ports_of}
-use Rattle.net_ir.specs.Run.{State, start}
+use Rattle.net_ir.specs.Run.{start}
 use Rattle.net_ir.specs.Solution.{Solves}
 use Rattle.net_ir.specs.Stepping.{Follows}
 
--- the line of the step of this number, which has led to this state: the values of the ports, which are the first
--- variables, in the solution
-abbrev pub Shows : Spec → ℕ → State → List ℕ → Type 0
-Shows spec number state bytes = (u : List ℕ) × Solves spec state u × (bytes ≡ line number (ports_of spec) u)
+-- the row that a state shows: the words of the ports, which are the first variables, in the solution
+pub record Shows (spec : Spec) (state : State) (row : List ℕ) : Type 0 where
+  pub solution : List ℕ
+  pub solves : Solves spec state solution
+  pub row_is : row ≡ take (length (ports_of spec)) solution
 
--- the lines of steps that follow the step of this number and its state
-abbrev pub GoesOn : Spec → ℕ → State → List Step → List ℕ → Type 0
-GoesOn spec number state [] bytes = bytes ≡ []
-GoesOn spec number state (step ∷ steps) bytes =
-    (next : State) × (first rest : List ℕ) × Follows spec state step next × Shows spec (number + 1) next first
-    × GoesOn spec (number + 1) next steps rest × (bytes ≡ first ++ rest)
-
--- the bytes are the design's trace over these steps: the header, the line of step 0, which has no step before it, and the
--- line of each step
-abbrev pub IsTrace : Spec → List Step → List ℕ → Type 0
-IsTrace spec steps bytes =
-    (first rest : List ℕ) × Shows spec 0 (start spec) first × GoesOn spec 0 (start spec) steps rest
-    × (bytes ≡ header (ports_of spec) ++ first ++ rest)
+-- the bytes are the design's trace over these steps: the text of the rows of a run from its first state
+pub record IsTrace (spec : Spec) (steps : List Step) (bytes : List ℕ) : Type 0 where
+  pub rows : List (List ℕ)
+  pub last : State
+  pub run : Runs (Shows spec) (Follows spec) (start spec) steps rows last
+  pub text : bytes ≡ trace_text (ports_of spec) rows

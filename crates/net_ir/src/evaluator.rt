@@ -7,7 +7,7 @@ ghost use Rattle.std.specs.List.{AllByRecursion};
 ghost use Rattle.bit_ops.specs.Lists.{words, widths};
 ghost use Rattle.net_ir.specs.Value.{widths_of, operands, size, val};
 ghost use Rattle.net_ir.specs.Plain.{IsLawful, IsWhole, IsPlain};
-ghost use Rattle.net_ir.specs.Pass.{source_of, sources_of, KeepsInitial, state_of, IsStorable, store, effect, run};
+ghost use Rattle.net_ir.specs.code.Pass.{source_of, sources_of, KeepsInitial, state_of, IsStorable, store, effect, run};
 ghost use Rattle.net_ir.specs.Solution.{Solves};
 
 use crate::design::{Driver, Role, Spec, Target, Var};
@@ -120,7 +120,7 @@ pub fn solve(spec: &Spec, inputs: &[Bits], registers: &[Bits], values: &mut [Bit
     requires initial { KeepsInitial spec.now (words registers.now) }
     requires values { widths values.old ≡ widths_of spec.now.vars }
     ensures widths { widths values.new ≡ widths_of spec.now.vars }
-    ensures solved { Solves spec.now (state_of inputs.now registers.now) (words values.new) }
+    ensures solved { Solves spec.now (state_of spec.now inputs.now registers.now) (words values.new) }
 {
     set_sources(spec.vars.as_slice(), inputs, registers, values);
     drive_all(spec.drivers.as_slice(), values);

@@ -1,23 +1,39 @@
 //! Laws of the definitions, each the contract of a function that does nothing.
 
 ghost use Rattle.std.specs.Prelude.{◌≡◌, ℕ, List};
-ghost use Rattle.sv_base.specs.Steps.{Step};
+ghost use Rattle.std.specs.List.{AllByRecursion};
+ghost use Rattle.bit_ops.specs.Width.{IsWidth};
+ghost use Rattle.sv_base.specs.declared.face.Class.TheVariants.{Clock};
+ghost use Rattle.sv_base.specs.declared.face.Port.{Port};
+ghost use Rattle.sv_base.specs.Steps.{Step, StepFits};
+ghost use Rattle.sv_base.specs.Runs.{Runs};
+ghost use Rattle.sv_base.specs.Meaning.{State, Plays};
 ghost use Rattle.net_ir.specs.declared.design.Spec.{Spec};
+ghost use Rattle.net_ir.specs.Face.{ports_of};
+ghost use Rattle.net_ir.specs.Run.{start};
 ghost use Rattle.net_ir.specs.Plain.{IsPlain};
-ghost use Rattle.net_ir.specs.Solution.{Solves};
-ghost use Rattle.net_ir.specs.Run.{State};
 ghost use Rattle.net_ir.specs.Stepping.{Samples, Follows};
-ghost use Rattle.net_ir.specs.Idle.{DifferInIdle, AgreeButIdle};
 ghost use Rattle.net_ir.specs.Trace.{Shows, IsTrace};
+ghost use Rattle.net_ir.specs.Facts.{HasOneSolution};
+ghost use Rattle.net_ir.specs.Idle.{IgnoresIdle};
+ghost use Rattle.net_ir.specs.Benched.{meaning_of};
 
-/// A plain design has at most one solution in a state.
-pub fn one_solution()
-    ensures { (spec : Spec) (state : State) (u v : List ℕ) → IsPlain spec → Solves spec state u → Solves spec state v → u ≡ v }
+/// A plain design has exactly one solution in each state whose levels fit.
+pub fn plain_solution()
+    ensures { (spec : Spec) → IsPlain spec → HasOneSolution spec }
+{
+    bit_ops::laws::value_fits();
+}
+
+/// In a plain design idle inputs change nothing that is seen.
+pub fn plain_idle()
+    ensures { (spec : Spec) → IsPlain spec → IgnoresIdle spec }
 {}
 
-/// The line of a step is determined by its number and its state.
-pub fn one_line()
-    ensures { (spec : Spec) (number : ℕ) (state : State) (a b : List ℕ) → IsPlain spec → Shows spec number state a → Shows spec number state b → a ≡ b }
+/// The ports of a plain design have widths that values may have, and its clocks have one bit.
+pub fn plain_ports()
+    ensures widths { (spec : Spec) → IsPlain spec → AllByRecursion (λ (p : Port). IsWidth p.width) (ports_of spec) }
+    ensures clocks { (spec : Spec) → IsPlain spec → AllByRecursion (λ (p : Port). p.class ≡ Clock → p.width ≡ 1) (ports_of spec) }
 {}
 
 /// What registers sample is determined.
@@ -25,23 +41,24 @@ pub fn one_sample()
     ensures { (spec : Spec) (u before after kept a b : List ℕ) → Samples spec u before after kept a → Samples spec u before after kept b → a ≡ b }
 {}
 
-/// In a plain design a step leads to one state.
+/// Where a design has one solution in each state, a step leads to one state.
 pub fn one_next()
-    ensures { (spec : Spec) (state : State) (step : Step) (a b : State) → IsPlain spec → Follows spec state step a → Follows spec state step b → a ≡ b }
+    ensures { (spec : Spec) (state : State) (step : Step) (a b : State) → HasOneSolution spec → Follows spec state step a → Follows spec state step b → a ≡ b }
 {}
 
-/// A plain design has at most one trace over given steps.
+/// Then given steps lead from a state to one state and show one list of rows.
+pub fn one_run()
+    ensures { (spec : Spec) (state : State) (steps : List Step) (rows others : List (List ℕ)) (last other : State) → HasOneSolution spec →
+        Runs (Shows spec) (Follows spec) state steps rows last → Runs (Shows spec) (Follows spec) state steps others other → (rows ≡ others) × (last ≡ other) }
+{}
+
+/// Then it has at most one trace over given steps.
 pub fn one_trace()
-    ensures { (spec : Spec) (steps : List Step) (a b : List ℕ) → IsPlain spec → IsTrace spec steps a → IsTrace spec steps b → a ≡ b }
+    ensures { (spec : Spec) (steps : List Step) (a b : List ℕ) → HasOneSolution spec → IsTrace spec steps a → IsTrace spec steps b → a ≡ b }
 {}
 
-/// Idle inputs are idle: where two states differ only in the levels of such, the design has in the second a solution that
-/// differs only in them from one in the first.
-pub fn idle_inputs()
-    ensures { (spec : Spec) (s t : State) (u : List ℕ) → IsPlain spec → DifferInIdle spec s t → Solves spec s u → (v : List ℕ) × Solves spec t v × AgreeButIdle spec u v }
-{}
-
-/// What registers sample does not depend on idle inputs.
-pub fn idle_samples()
-    ensures { (spec : Spec) (u v before before_2 after after_2 kept next : List ℕ) → IsPlain spec → AgreeButIdle spec u v → AgreeButIdle spec before before_2 → AgreeButIdle spec after after_2 → Samples spec u before after kept next → Samples spec v before_2 after_2 kept next }
+/// Where idle inputs change nothing, what a bench of the design plays is a run of the design.
+pub fn benched_run()
+    ensures { (spec : Spec) (steps : List Step) (rows : List (List ℕ)) (last : State) → IgnoresIdle spec →
+        AllByRecursion (StepFits (ports_of spec)) steps → Plays (meaning_of spec) steps rows last → Runs (Shows spec) (Follows spec) (start spec) steps rows last }
 {}

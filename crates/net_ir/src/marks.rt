@@ -5,7 +5,7 @@ ghost use Rattle.net_ir.specs.Value.{reads_of};
 ghost use Rattle.net_ir.specs.Statement.{targets_of, statement_reads};
 ghost use Rattle.net_ir.specs.Drive.{target_var, var_list, driver_reads, driver_clocks};
 ghost use Rattle.net_ir.specs.Face.{clocks_of, all_reads};
-ghost use Rattle.net_ir.specs.Marks.{mark_all, AreMarksOf, is_clear, named_by, clocked_by};
+ghost use Rattle.net_ir.specs.code.Marks.{mark_all, AreMarksOf, is_clear, named_by, clocked_by};
 
 use crate::design::{Driver, Spec, Target, Trigger};
 use crate::statement::Stmt;

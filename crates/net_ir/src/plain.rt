@@ -5,19 +5,22 @@ ghost use Rattle.std.specs.List.{AllByRecursion};
 ghost use Rattle.net_ir.specs.Value.{widths_of, reads_of};
 ghost use Rattle.net_ir.specs.Statement.{targets_of};
 ghost use Rattle.net_ir.specs.Drive.{target_var};
+ghost use Rattle.net_ir.specs.Facts.{HasPortsFirst};
 ghost use Rattle.net_ir.specs.Plain.{HaveInitialValues, IsWhole, SparesInputs, AreOrdered, HasPlainClocks, WritesNoNet, IsPlain};
-ghost use Rattle.net_ir.specs.Marks.{mark_all, is_input, is_clock, are_clocks, has_clocks};
-ghost use Rattle.net_ir.specs.Turns.{is_free, is_free_at, are_free, are_clear, written_by, driven_by, takes_turn, names_no_net, name_no_nets, writes_no_net};
+ghost use Rattle.net_ir.specs.code.Marks.{mark_all, is_input, is_clock, are_clocks, has_clocks};
+ghost use Rattle.net_ir.specs.code.Turns.{is_free, is_free_at, are_free, are_clear, written_by, driven_by, takes_turn, names_no_net, name_no_nets, writes_no_net};
 
 use crate::design::{Driver, Role, Spec, Target, Trigger, Var};
 use crate::marks::{is_clear, mark_target, mark_targets, read_marks};
+use crate::outside::is_inner;
 use crate::statement::Stmt;
 use crate::term::Term;
 use std::alloc::{AllocError, Global};
 
 /// Whether a design of whole assignments is plain: no bit has two drivers, no driver writes an input, no assignment reads
-/// what it or a later one writes, each event control names an input of one bit that no expression reads, and no clocked
-/// process writes a net (IEEE 1800-2017, 6.5 and 10.4). The work is linear in the design.
+/// what it or a later one writes, each event control names an input of one bit that no expression reads, no clocked
+/// process writes a net (IEEE 1800-2017, 6.5 and 10.4), and the ports are the first variables. The work is linear in
+/// the design.
 pub fn is_plain(alloc: Global, spec: &Spec) -> Result<bool, AllocError>
     requires vars { HaveInitialValues spec.now.vars }
     requires whole { AllByRecursion (IsWhole (widths_of spec.now.vars)) spec.now.drivers }
@@ -27,6 +30,9 @@ pub fn is_plain(alloc: Global, spec: &Spec) -> Result<bool, AllocError>
         return Ok(false);
     }
     if !write_no_nets(spec) {
+        return Ok(false);
+    }
+    if !has_ports_first(spec) {
         return Ok(false);
     }
     have_clocks(alloc, spec)
@@ -190,6 +196,21 @@ fn names_no_net(target: &Target, vars: &[Var]) -> bool
         },
         None => true,
     }
+}
+
+/// Whether no port stands behind a variable that only the module sees.
+fn has_ports_first(spec: &Spec) -> bool
+    ensures { IsTrue result ↔ HasPortsFirst spec.now }
+{
+    let mut behind = false;
+    for var in spec.vars.as_slice() {
+        if is_inner(var) {
+            behind = true;
+        } else if behind {
+            return false;
+        }
+    }
+    true
 }
 
 /// Whether each event control names an input of one bit that no expression reads.

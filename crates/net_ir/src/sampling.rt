@@ -6,8 +6,9 @@ ghost use Rattle.bit_ops.specs.Lists.{words, widths};
 ghost use Rattle.net_ir.specs.declared.statement.Stmt.TheFolds.{every-Stmt};
 ghost use Rattle.net_ir.specs.Value.{widths_of};
 ghost use Rattle.net_ir.specs.Statement.{writes_of};
+ghost use Rattle.net_ir.specs.Register.{registers_of, register_words};
 ghost use Rattle.net_ir.specs.Plain.{IsWhole, IsWholeLayer, IsPlain};
-ghost use Rattle.net_ir.specs.Pass.{KeepsInitial, store_all};
+ghost use Rattle.net_ir.specs.code.Pass.{KeepsInitial, store_all};
 ghost use Rattle.net_ir.specs.Run.{is_edge, occurs, sampled};
 ghost use Rattle.net_ir.specs.Stepping.{Samples};
 
@@ -25,7 +26,8 @@ pub fn sample(spec: &Spec, values: &[Bits], before: &[Bits], after: &[Bits], reg
     requires after { widths after.now ≡ widths_of spec.now.vars }
     requires registers { widths registers.old ≡ widths_of spec.now.vars }
     ensures widths { widths registers.new ≡ widths_of spec.now.vars }
-    ensures samples { Samples spec.now (words values.now) (words before.now) (words after.now) (words registers.old) (words registers.new) }
+    ensures samples { Samples spec.now (words values.now) (words before.now) (words after.now)
+        (register_words (registers_of spec.now) (words registers.old)) (register_words (registers_of spec.now) (words registers.new)) }
     ensures initial { KeepsInitial spec.now (words registers.old) → KeepsInitial spec.now (words registers.new) }
 {
     for driver in spec.drivers.as_slice() {

@@ -25,7 +25,12 @@ enum Row {
     Process(u32, u32),
 }
 
-fn var(alloc: Global, role: Role, wire: bool) -> Var
+/// The outside of a design: two inputs, an output, and a net that only the module sees.
+const PORTS_FIRST: [Role; 4] = [Role::Input, Role::Input, Role::Output, Role::Inner];
+
+const A_PORT_BEHIND: [Role; 4] = [Role::Input, Role::Input, Role::Inner, Role::Output];
+
+fn var(alloc: Global, role: Role) -> Var
     ensures width { result.width ≡ 1 }
     ensures init { result.init.width ≡ 1 }
 {
@@ -38,21 +43,21 @@ fn var(alloc: Global, role: Role, wire: bool) -> Var
         low: 0,
         ranged: false,
         signed: false,
-        wire,
+        wire: role == Role::Inner,
         init: Bits::zero(1),
     }
 }
 
-/// Two inputs, an output and a net.
-fn vars(alloc: Global) -> Result<Sequence<Var>, AllocError>
+/// Variables of one bit with these roles, of which the inner ones are nets.
+fn vars(alloc: Global, roles: [Role; 4]) -> Result<Sequence<Var>, AllocError>
     ensures widths { IfOk result (λ vars. widths_of vars ≡ 1 ∷ 1 ∷ 1 ∷ 1 ∷ []) }
     ensures init { IfOk result HaveInitialValues }
 {
     let mut vars = Sequence::new(alloc);
-    vars.push(var(alloc, Role::Input, false))?;
-    vars.push(var(alloc, Role::Input, false))?;
-    vars.push(var(alloc, Role::Output, false))?;
-    vars.push(var(alloc, Role::Inner, true))?;
+    vars.push(var(alloc, roles[0]))?;
+    vars.push(var(alloc, roles[1]))?;
+    vars.push(var(alloc, roles[2]))?;
+    vars.push(var(alloc, roles[3]))?;
     Ok(vars)
 }
 
@@ -113,7 +118,7 @@ fn driver(alloc: Global, row: Row) -> Result<Driver, Fail>
     }
 }
 
-fn design(alloc: Global, rows: &[Row]) -> Result<Spec, Fail>
+fn design(alloc: Global, roles: [Role; 4], rows: &[Row]) -> Result<Spec, Fail>
     ensures vars { IfOk result (λ spec. HaveInitialValues spec.vars) }
     ensures whole { IfOk result (λ spec. AllByRecursion (IsWhole (widths_of spec.vars)) spec.drivers) }
 {
@@ -124,7 +129,7 @@ fn design(alloc: Global, rows: &[Row]) -> Result<Spec, Fail>
     Ok(Spec {
         module: Name::empty(alloc),
         place: Place::NOWHERE,
-        vars: vars(alloc)?,
+        vars: vars(alloc, roles)?,
         drivers,
     })
 }
@@ -149,8 +154,17 @@ fn judges_designs(rt: HostRuntime) -> Result<(), Fail> {
         (&[Row::Process(NET, IN)], false),
     ];
     for (rows, plain) in designs {
-        let spec = design(rt.alloc(), rows)?;
+        let spec = design(rt.alloc(), PORTS_FIRST, rows)?;
         assert_eq!(rt; is_plain(rt.alloc(), &spec)?, plain, "{rows:?}");
+    }
+    Ok(())
+}
+
+#[test]
+fn judges_the_order_of_ports(rt: HostRuntime) -> Result<(), Fail> {
+    for (roles, plain) in [(PORTS_FIRST, true), (A_PORT_BEHIND, false)] {
+        let spec = design(rt.alloc(), roles, &[])?;
+        assert_eq!(rt; is_plain(rt.alloc(), &spec)?, plain, "{roles:?}");
     }
     Ok(())
 }

@@ -41,7 +41,8 @@ loop-arg-preserved t c =
     let inv = c.loop-arg.invariant in
     let here : c.loop-arg.arg-index < length c.loop-arg.given = omega arith in
     let value : (c.evaluate.result.width, c.evaluate.result.word) ≡ operand_of ws u c.arg-item.result =
-    ap (λ w. (w, c.evaluate.result.word)) (c.evaluate.ensures.width ∙ sym (width_is_size ws u c.arg-item.result)) ∙ ap (λ n. ((operand_of ws u c.arg-item.result).0, n)) c.evaluate.ensures.word in
+    ap (λ w. (w, c.evaluate.result.word)) (c.evaluate.ensures.width ∙ sym (width_is_size ws u c.arg-item.result))
+    ∙ ap (λ n. ((operand_of ws u c.arg-item.result).0, n)) c.evaluate.ensures.word in
     let index : c.loop-arg.count ≡ c.loop-arg.arg-index = inv.count in
     record {
       count = omega arith;

@@ -1,7 +1,7 @@
 use Rattle.std.proofs.Common.{◌≡◌, sym, ◌∙◌, ap, subst}
 use Rattle.bit_ops.specs.Lists.{words, widths}
 use Rattle.net_ir.specs.Plain.{IsWhole}
-use Rattle.net_ir.specs.Pass.{effect}
+use Rattle.net_ir.specs.code.Pass.{effect}
 use Rattle.net_ir.proofs.Passes.{all_at, run_more}
 use Rattle.net_ir.proofs.evaluator.drive_all.Goals as goal
 

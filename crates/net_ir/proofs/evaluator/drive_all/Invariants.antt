@@ -1,6 +1,6 @@
 use Rattle.std.proofs.Common.{◌≡◌, drop}
 use Rattle.bit_ops.specs.Lists.{words, widths}
-use Rattle.net_ir.specs.Pass.{run}
+use Rattle.net_ir.specs.code.Pass.{run}
 use Rattle.net_ir.proofs.evaluator.drive_all.Given as goal
 
 -- the rest of the drivers leaves what all of them leave

@@ -1,5 +1,5 @@
 use Rattle.std.proofs.Common.{◌≡◌, take, length}
-use Rattle.net_ir.specs.Pass.{sources_of}
+use Rattle.net_ir.specs.code.Pass.{sources_of}
 use Rattle.net_ir.proofs.evaluator.set_sources.Given as goal
 
 abbrev pub invariant-loop-x : goal.invariant-loop-x

@@ -1,7 +1,7 @@
 use Rattle.std.proofs.Common.{◌≡◌, ◌∙◌, ap}
 use Rattle.bit_ops.specs.Lists.{words, widths}
 use Rattle.net_ir.specs.Value.{widths_of}
-use Rattle.net_ir.specs.Pass.{run, sources_of}
+use Rattle.net_ir.specs.code.Pass.{run, sources_of}
 use Rattle.net_ir.proofs.Solved.{run_solves}
 use Rattle.net_ir.proofs.evaluator.solve.Goals as goal
 

@@ -1,7 +1,7 @@
 use Rattle.std.proofs.Common.{sym, ap, ◌∙◌}
 use Rattle.std.specs.List.{flat_map}
 use Rattle.net_ir.specs.Statement.{targets_of}
-use Rattle.net_ir.specs.Marks.{mark_all, named_by}
+use Rattle.net_ir.specs.code.Marks.{mark_all, named_by}
 use Rattle.net_ir.proofs.Marking.{block_named, mark_more}
 use Rattle.net_ir.proofs.marks.+mark_targets.Goals as goal
 

@@ -2,7 +2,7 @@ use Rattle.std.proofs.Common.{sym, ap, ◌∙◌}
 use Rattle.std.specs.List.{flat_map}
 use Rattle.net_ir.specs.Statement.{targets_of}
 use Rattle.net_ir.specs.Drive.{target_var}
-use Rattle.net_ir.specs.Turns.{is_free_at, are_free}
+use Rattle.net_ir.specs.code.Turns.{is_free_at, are_free}
 use Rattle.net_ir.proofs.Marking.{block_targets, all_more, all_fails}
 use Rattle.net_ir.proofs.plain.+are_free.Goals as goal
 

@@ -1,7 +1,7 @@
 use Rattle.std.proofs.Common.{◌≡◌, drop}
 use Rattle.std.specs.List.{flat_map}
 use Rattle.net_ir.specs.Statement.{targets_of}
-use Rattle.net_ir.specs.Turns.{are_free}
+use Rattle.net_ir.specs.code.Turns.{are_free}
 use Rattle.net_ir.proofs.plain.+are_free.Given as goal
 
 abbrev pub decreases-are_free : goal.decreases-are_free

@@ -1,8 +1,8 @@
 use Rattle.std.proofs.Common.{sym, ap, ◌∙◌}
 use Rattle.std.specs.List.{flat_map}
 use Rattle.net_ir.specs.Value.{reads_of}
-use Rattle.net_ir.specs.Marks.{is_clear}
-use Rattle.net_ir.specs.Turns.{are_clear}
+use Rattle.net_ir.specs.code.Marks.{is_clear}
+use Rattle.net_ir.specs.code.Turns.{are_clear}
 use Rattle.net_ir.proofs.Marking.{reads_apply, all_more, all_fails}
 use Rattle.net_ir.proofs.plain.+is_unread.Goals as goal
 

@@ -1,7 +1,7 @@
 use Rattle.std.proofs.Common.{◌≡◌, drop}
 use Rattle.std.specs.List.{flat_map}
 use Rattle.net_ir.specs.Value.{reads_of}
-use Rattle.net_ir.specs.Turns.{are_clear}
+use Rattle.net_ir.specs.code.Turns.{are_clear}
 use Rattle.net_ir.proofs.plain.+is_unread.Given as goal
 
 abbrev pub decreases-is_unread : goal.decreases-is_unread

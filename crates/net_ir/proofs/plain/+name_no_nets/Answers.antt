@@ -2,7 +2,7 @@ use Rattle.std.proofs.Common.{sym, ap, ◌∙◌}
 use Rattle.std.specs.List.{flat_map}
 use Rattle.net_ir.specs.Statement.{targets_of}
 use Rattle.net_ir.specs.Drive.{target_var}
-use Rattle.net_ir.specs.Turns.{names_no_net, name_no_nets}
+use Rattle.net_ir.specs.code.Turns.{names_no_net, name_no_nets}
 use Rattle.net_ir.proofs.Marking.{block_targets, all_more, all_fails}
 use Rattle.net_ir.proofs.plain.+name_no_nets.Goals as goal
 

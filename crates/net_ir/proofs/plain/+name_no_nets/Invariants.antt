@@ -1,7 +1,7 @@
 use Rattle.std.proofs.Common.{◌≡◌, drop}
 use Rattle.std.specs.List.{flat_map}
 use Rattle.net_ir.specs.Statement.{targets_of}
-use Rattle.net_ir.specs.Turns.{name_no_nets}
+use Rattle.net_ir.specs.code.Turns.{name_no_nets}
 use Rattle.net_ir.proofs.plain.+name_no_nets.Given as goal
 
 abbrev pub decreases-name_no_nets : goal.decreases-name_no_nets

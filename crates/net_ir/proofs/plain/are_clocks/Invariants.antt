@@ -1,5 +1,5 @@
 use Rattle.std.proofs.Common.{◌≡◌, drop}
-use Rattle.net_ir.specs.Marks.{are_clocks}
+use Rattle.net_ir.specs.code.Marks.{are_clocks}
 use Rattle.net_ir.proofs.plain.are_clocks.Given as goal
 
 -- the rest of the event controls decides

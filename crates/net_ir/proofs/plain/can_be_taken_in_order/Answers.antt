@@ -12,11 +12,13 @@ use Rattle.net_ir.proofs.Turns.{AreTaken, first_marks, turn_step, turn_fails}
 use Rattle.net_ir.proofs.plain.can_be_taken_in_order.Goals as goal
 
 -- drivers as they are read
-wholes : (vars vs : List Var) (drivers ds : List Driver) → vs ≡ vars → ds ≡ drivers → AllByRecursion (IsWhole (widths_of vars)) drivers → AllByRecursion (IsWhole (widths_of vs)) ds
+wholes : (vars vs : List Var) (drivers ds : List Driver) → vs ≡ vars → ds ≡ drivers → AllByRecursion (IsWhole (widths_of vars)) drivers →
+    AllByRecursion (IsWhole (widths_of vs)) ds
 wholes vars vs drivers ds same_vars same_drivers all =
     subst (λ v. AllByRecursion (IsWhole (widths_of v)) ds) (sym same_vars) (subst (λ d. AllByRecursion (IsWhole (widths_of vars)) d) (sym same_drivers) all)
 
-fine : (vars vs : List Var) (drivers ds : List Driver) → vs ≡ vars → ds ≡ drivers → AllByRecursion (SparesInputs vars) drivers × AreOrdered (widths_of vars) drivers → AllByRecursion (SparesInputs vs) ds × AreOrdered (widths_of vs) ds
+fine : (vars vs : List Var) (drivers ds : List Driver) → vs ≡ vars → ds ≡ drivers →
+    AllByRecursion (SparesInputs vars) drivers × AreOrdered (widths_of vars) drivers → AllByRecursion (SparesInputs vs) ds × AreOrdered (widths_of vs) ds
 fine vars vs drivers ds same_vars same_drivers both =
     subst (λ v. AllByRecursion (SparesInputs v) ds × AreOrdered (widths_of v) ds) (sym same_vars)
     (subst (λ d. AllByRecursion (SparesInputs vars) d × AreOrdered (widths_of vars) d) (sym same_drivers) both)

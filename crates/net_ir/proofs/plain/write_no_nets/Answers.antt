@@ -2,7 +2,7 @@ use Rattle.std.proofs.Common.{◌≡◌, sym, ap, ◌∙◌, true, false, List}
 use Rattle.std.specs.List.{list_all}
 use Rattle.net_ir.specs.declared.design.Var.{Var}
 use Rattle.net_ir.specs.declared.design.Driver.{Driver}
-use Rattle.net_ir.specs.Turns.{writes_no_net}
+use Rattle.net_ir.specs.code.Turns.{writes_no_net}
 use Rattle.net_ir.proofs.Marking.{each_fails, each_done}
 use Rattle.net_ir.proofs.PlainNets.{nets_decided}
 use Rattle.net_ir.proofs.plain.write_no_nets.Goals as goal

@@ -1,6 +1,6 @@
 use Rattle.std.proofs.Common.{◌≡◌, drop}
 use Rattle.std.specs.List.{list_all}
-use Rattle.net_ir.specs.Turns.{writes_no_net}
+use Rattle.net_ir.specs.code.Turns.{writes_no_net}
 use Rattle.net_ir.proofs.plain.write_no_nets.Given as goal
 
 -- the rest of the drivers decides

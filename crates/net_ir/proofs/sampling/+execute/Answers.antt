@@ -5,7 +5,7 @@ use Rattle.bit_ops.specs.Lists.{words, widths}
 use Rattle.net_ir.specs.declared.statement.Stmt.TheFolds.{every-Stmt, the_lemmas}
 use Rattle.net_ir.specs.Statement.{writes_of}
 use Rattle.net_ir.specs.Plain.{IsWholeLayer, IsWholeTo}
-use Rattle.net_ir.specs.Pass.{IsStorable, store_all}
+use Rattle.net_ir.specs.code.Pass.{IsStorable, store_all}
 use Rattle.net_ir.proofs.Statements.{writes_block, writes_assign, every_part, every_assign, lawful_value}
 use Rattle.net_ir.proofs.Passes.{all_at, whole_storable, store_writes}
 use Rattle.net_ir.proofs.Writes.{stored_more, stored_all}

@@ -2,7 +2,7 @@ use Rattle.std.proofs.Common.{◌≡◌, drop}
 use Rattle.std.specs.List.{flat_map}
 use Rattle.bit_ops.specs.Lists.{words, widths}
 use Rattle.net_ir.specs.Run.{sampled}
-use Rattle.net_ir.specs.Pass.{store_all}
+use Rattle.net_ir.specs.code.Pass.{store_all}
 use Rattle.net_ir.proofs.sampling.sample.Given as goal
 
 -- the rest of the drivers leaves what all of them leave

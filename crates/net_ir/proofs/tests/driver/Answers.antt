@@ -22,7 +22,8 @@ one_at (suc (suc zero)) there = refl
 one_at (suc (suc (suc zero))) there = refl
 one_at (suc (suc (suc (suc x)))) there = absurd (omega (arith, there))
 
-whole_to : (target : Target) (value : Term) (x : ℕ) → target_var target ≡ Some x → x < 4 → size Ones value ≡ 1 → IsLawful Ones value → IsWholeTo Ones target value
+whole_to : (target : Target) (value : Term) (x : ℕ) → target_var target ≡ Some x → x < 4 → size Ones value ≡ 1 → IsLawful Ones value →
+    IsWholeTo Ones target value
 whole_to (Of None name place) value x is there width lawful = absurd (let clash : None ≡ Some x = is in cc)
 whole_to (Of (Some y) name place) value x is there width lawful =
     let same : x ≡ y = (let names : Some y ≡ Some x = is in cc) in

@@ -8,7 +8,8 @@ use Rattle.net_ir.specs.Plain.{IsLawfulLayer, IsLawful}
 use Rattle.net_ir.proofs.tests.read.Goals as goal
 
 read_lawful : (ws : List ℕ) (var : ℕ) (place : Place) → var < length ws → IsLawful ws (Read var place)
-read_lawful ws var place there = subst (IsLawful ws) (rolls-Read var place) (every_made-Term (IsLawfulLayer ws) (layer.Read var place) (layer.Read var place) refl there)
+read_lawful ws var place there =
+    subst (IsLawful ws) (rolls-Read var place) (every_made-Term (IsLawfulLayer ws) (layer.Read var place) (layer.Read var place) refl there)
 
 pub returns-clause-lawful : goal.returns-clause-lawful
 returns-clause-lawful c = read_lawful (1 ∷ 1 ∷ 1 ∷ 1 ∷ []) c.args.var (record { file = 0; line = 0 }) c.requires

@@ -14,7 +14,8 @@ use Rattle.net_ir.specs.declared.design.Spec.{Spec}
 use Rattle.net_ir.specs.Value.{val, widths_of}
 use Rattle.net_ir.specs.Statement.{Write}
 use Rattle.net_ir.specs.Drive.{NoneHolds}
-use Rattle.net_ir.specs.Run.{State}
+use Rattle.net_ir.specs.Register.{registers_of, register_words}
+use Rattle.sv_base.specs.Meaning.{State}
 
 -- what a variable of this role has before any driver's turn, of the level that is set and the word that a register holds
 abbrev pub source_at : Role → Bits → Bits → Bits
@@ -36,9 +37,10 @@ sources_of (v ∷ vars) (input ∷ inputs) (h ∷ held) = source_of v input h �
 abbrev pub KeepsInitial : Spec → List ℕ → Type 0
 KeepsInitial spec held = (x k : ℕ) (v : Var) → slice_get spec.vars x ≡ Some v → k < v.width → NoneHolds (widths_of spec.vars) spec.drivers x k → bit_at (slice_index held x) k ≡ bit_at v.init.word k
 
--- the state with these levels of inputs and these words of registers
-abbrev pub state_of : List Bits → List Bits → State
-state_of inputs registers = record { inputs = words inputs; registers = words registers }
+-- the state with these levels of inputs, and these values held: a value for each variable stands in each list, of which the levels of
+-- inputs count, and the bits of registers
+abbrev pub state_of : Spec → List Bits → List Bits → State
+state_of spec inputs held = record { inputs = words inputs; registers = register_words (registers_of spec) (words held) }
 
 -- a value of this width may be stored in the whole of the target
 abbrev pub IsStorable : List ℕ → Target → ℕ → Type 0

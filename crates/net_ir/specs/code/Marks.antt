@@ -1,5 +1,5 @@
 -- Marks of variables: a truth value for each, by its number.
-use Rattle.std.specs.Prelude.{◌≡◌, ℕ, ◌<◌, Bool, true, false, not, ◌==◌, ◌&&◌, List, [], ◌∷◌, length, Option, None, Some, slice_get, slice_set, slice_index_or}
+use Rattle.std.specs.Prelude.{◌≡◌, ℕ, ◌<◌, Bool, true, false, not, ◌==◌, ◌&&◌, List, [], ◌∷◌, length, Option, None, Some, slice_get, slice_set, slice_index_or, if◌then◌else◌}
 use Rattle.std.specs.List.{flat_map, list_all}
 use Rattle.sv_base.specs.declared.face.Class.{Class}
 use Rattle.sv_base.specs.declared.face.Class.TheVariants as class
@@ -11,7 +11,7 @@ use Rattle.net_ir.specs.declared.design.Trigger.{Trigger}
 use Rattle.net_ir.specs.declared.design.Driver.{Driver}
 use Rattle.net_ir.specs.declared.design.Driver.TheVariants.{Assign, Clocked}
 use Rattle.net_ir.specs.Drive.{target_var, var_list}
-use Rattle.net_ir.specs.Face.{stands_in, input_class}
+use Rattle.net_ir.specs.Face.{stands_in, input_class, is_inner}
 
 -- the marks with those of these variables; a number that no variable has is passed over
 abbrev pub mark_all : List ℕ → List Bool → List Bool
@@ -65,3 +65,8 @@ are_clocks vars read triggers = list_all (λ (t : Trigger). is_clock vars read t
 abbrev pub has_clocks : List Var → List Bool → Driver → Bool
 has_clocks vars read (Assign target value place) = true
 has_clocks vars read (Clocked triggers body place) = are_clocks vars read triggers
+
+-- whether no port stands behind a variable that only the module sees, where one stands before these variables if `behind` says so
+abbrev pub ports_lead : Bool → List Var → Bool
+ports_lead behind [] = true
+ports_lead behind (v ∷ vars) = if is_inner v.role then ports_lead true vars else (not behind && ports_lead behind vars)

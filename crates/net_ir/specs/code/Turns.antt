@@ -9,7 +9,7 @@ use Rattle.net_ir.specs.declared.design.Driver.TheVariants.{Assign, Clocked}
 use Rattle.net_ir.specs.Value.{reads_of}
 use Rattle.net_ir.specs.Statement.{targets_of}
 use Rattle.net_ir.specs.Drive.{target_var, var_list}
-use Rattle.net_ir.specs.Marks.{mark_all, named_by, is_clear, is_input}
+use Rattle.net_ir.specs.code.Marks.{mark_all, named_by, is_clear, is_input}
 
 -- whether a variable, if it is there, is set from outside
 abbrev pub input_if : Option Var → Bool
