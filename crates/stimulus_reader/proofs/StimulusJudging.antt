@@ -1,4 +1,4 @@
--- What a line makes of the script.
+-- What a line makes of the stimulus.
 use Rattle.std.proofs.Common.{◌≡◌, ℕ, ◌+◌, ◌-◌, Bool, true, false, ◌==◌, List, [], ◌∷◌, ◌++◌, length, take, drop, Vec, Global, refl, sym, ap, subst, ◌∙◌, arith, length-append, Option, None, Some, IfErr, Result, Ok, Err, if◌then◌else◌}
 use Rattle.std.specs.List.{list_any}
 use Rattle.std.proofs.Math.Seq.{drop-append_seam, take-append_seam}
@@ -10,16 +10,16 @@ use Rattle.stimulus_reader.specs.declared.reason.Reason.{Reason}
 use Rattle.stimulus_reader.specs.declared.reason.Reason.TheVariants.{SetTwice, NoClock}
 use Rattle.stimulus_reader.specs.declared.step.StepKind.{StepKind}
 use Rattle.stimulus_reader.specs.declared.step.StepKind.TheVariants as kind
-use Rattle.stimulus_reader.specs.Stimulus.{BadLine, Fault, Line, Meaning, Script, stopped, lines_of, span, limit_of, meaning_of_words, meaning_of_kind, meaning_of_settings, words_of, content_of, script_from, script_of_meaning, unless_limit, class_fault, unless_fault, unless_set, valued, value_in, set_input, input_from, setting_of_parts, setting_of, named_part, parts_of, with_setting, after_setting, settings_of, is_comment, kind_of}
+use Rattle.stimulus_reader.specs.Stimulus.{BadLine, Fault, Line, LineVerdict, Stimulus, stopped, lines_of, span, limit_of, verdict_of_words, verdict_of_kind, verdict_of_settings, words_of, content_of, stimulus_from, stimulus_of_verdict, unless_limit, class_fault, unless_fault, unless_set, valued, value_in, set_input, input_from, setting_of_parts, setting_of, named_part, parts_of, with_setting, after_setting, settings_of, is_comment, kind_of}
 use Rattle.stimulus_reader.specs.Stimulus as asked
 use Rattle.stimulus_reader.specs.Reading.{Reading, passes_limit}
-use Rattle.stimulus_reader.specs.Fields.{reading_of, kept_of, bad_of}
-use Rattle.stimulus_reader.specs.LineReading.{StandsIn}
-use Rattle.stimulus_reader.specs.LineSource.{IsFound}
+use Rattle.stimulus_reader.specs.code.Fields.{judged_of, kept_of, bad_of}
+use Rattle.stimulus_reader.specs.code.LineReading.{StandsIn}
+use Rattle.stimulus_reader.specs.code.LineSource.{IsFound}
 use Rattle.stimulus_reader.specs.declared.found.Found.{Found}
 use Rattle.stimulus_reader.specs.declared.found.Found.TheVariants as found
-use Rattle.stimulus_reader.specs.Judging.{line_in, meaning_in, IsBehind}
-use Rattle.stimulus_reader.specs.declared.step.StepReader.TheInside.{Inside}
+use Rattle.stimulus_reader.specs.code.Judging.{line_in, verdict_in, IsBehind}
+use Rattle.stimulus_reader.specs.declared.judge.LineJudge.TheInside.{Inside}
 
 -- ---- the line that is kept
 
@@ -28,7 +28,7 @@ none_bad : (bad : Option Reason) (last : ℕ) (line : List ℕ) → bad_of bad l
 none_bad None last line e = refl
 none_bad (Some reason) last line e = absurd (cc)
 
-pub kept_is : (a : Inside) (before : Reading) → reading_of a ≡ before → before.bad ≡ None → before.kept ≡ a.line.items
+pub kept_is : (a : Inside) (before : Reading) → judged_of a ≡ before → before.bad ≡ None → before.kept ≡ a.line.items
 kept_is a before view good =
     sym (ap (λ (r : Reading). r.kept) view) ∙ none_bad a.bad a.last a.line.items (ap (λ (r : Reading). r.bad) view ∙ good)
 
@@ -46,7 +46,7 @@ kept_none None = refl
 kept_none (Some reason) = refl
 
 -- what was found at the place of the reader is the line that it keeps then
-pub found_kept : (a : Inside) (before : Reading) (line : List ℕ) (what : Found) (over : Bool) (x y : List ℕ) → reading_of a ≡ before → before.bad ≡ None → what ≡ found.Line over → IsFound a.at line what (a.line.items ++ x) y → IsFound before.at (kept_of a.bad line) (found.Line over) (before.kept ++ x) y
+pub found_kept : (a : Inside) (before : Reading) (line : List ℕ) (what : Found) (over : Bool) (x y : List ℕ) → judged_of a ≡ before → before.bad ≡ None → what ≡ found.Line over → IsFound a.at line what (a.line.items ++ x) y → IsFound before.at (kept_of a.bad line) (found.Line over) (before.kept ++ x) y
 found_kept a before line what over x y view good is there =
     let none : bad_of a.bad a.last a.line.items ≡ None = ap (λ (r : Reading). r.bad) view ∙ good in
     let here : IsFound a.at line (found.Line over) (a.line.items ++ x) y = subst (λ (w : Found). IsFound a.at line w (a.line.items ++ x) y) is there in
@@ -54,8 +54,15 @@ found_kept a before line what over x y view good is there =
     (subst (λ (xs : List ℕ). IsFound before.at line (found.Line over) (xs ++ x) y) (sym (kept_is a before view good))
     (subst (λ (n : ℕ). IsFound n line (found.Line over) (a.line.items ++ x) y) (ap (λ (r : Reading). r.at) view) here))
 
+-- the same of a line that passes a limit
+pub found_long : (a : Inside) (before : Reading) (line : List ℕ) (what : Found) (reason : Reason) (x y : List ℕ) → judged_of a ≡ before → before.bad ≡ None → what ≡ found.Long reason → IsFound a.at line what (a.line.items ++ x) y → IsFound before.at line (found.Long reason) (before.kept ++ x) y
+found_long a before line what reason x y view good is there =
+    let here : IsFound a.at line (found.Long reason) (a.line.items ++ x) y = subst (λ (w : Found). IsFound a.at line w (a.line.items ++ x) y) is there in
+    subst (λ (xs : List ℕ). IsFound before.at line (found.Long reason) (xs ++ x) y) (sym (kept_is a before view good))
+    (subst (λ (n : ℕ). IsFound n line (found.Long reason) (a.line.items ++ x) y) (ap (λ (r : Reading). r.at) view) here)
+
 -- the reader stands behind the line that it kept
-pub behind_line : (a b : Inside) (before : Reading) (over : Bool) (bytes : ℕ) → reading_of a ≡ before → before.bad ≡ None → b.ports ≡ a.ports → b.number ≡ a.number + 1 → b.at ≡ a.at + bytes → bytes ≡ length a.line.items + (if over then 1 else 0) → b.line.items ≡ [] → b.bad ≡ a.bad → IsBehind before (reading_of b) over
+pub behind_line : (a b : Inside) (before : Reading) (over : Bool) (bytes : ℕ) → judged_of a ≡ before → before.bad ≡ None → b.ports ≡ a.ports → b.number ≡ a.number + 1 → b.at ≡ a.at + bytes → bytes ≡ length a.line.items + (if over then 1 else 0) → b.line.items ≡ [] → b.bad ≡ a.bad → IsBehind before (judged_of b) over
 behind_line a b before over bytes view good ports number at bytes_are line bad =
     let buffer = kept_is a before view good in
     let none : bad_of a.bad a.last a.line.items ≡ None = ap (λ (r : Reading). r.bad) view ∙ good in
@@ -68,10 +75,10 @@ behind_line a b before over bytes view good ports number at bytes_are line bad =
     }
 
 -- what the line in the buffer asks for
-pub meaning_is : (a : Inside) (before : Reading) (over : Bool) → reading_of a ≡ before → before.bad ≡ None → meaning_of_words a.ports.items (words_of (content_of (record { text = a.line.items; ended = over }))) ≡ meaning_in before over
-meaning_is a before over view good =
-    ap (λ (ports : List Port). meaning_of_words ports (words_of (content_of (record { text = a.line.items; ended = over })))) (ap (λ (r : Reading). r.ports) view)
-    ∙ ap (λ (line : List ℕ). meaning_of_words before.ports (words_of (content_of (record { text = line; ended = over })))) (sym (kept_is a before view good))
+pub verdict_is : (a : Inside) (before : Reading) (over : Bool) → judged_of a ≡ before → before.bad ≡ None → verdict_of_words a.ports.items (words_of (content_of (record { text = a.line.items; ended = over }))) ≡ verdict_in before over
+verdict_is a before over view good =
+    ap (λ (ports : List Port). verdict_of_words ports (words_of (content_of (record { text = a.line.items; ended = over })))) (ap (λ (r : Reading). r.ports) view)
+    ∙ ap (λ (line : List ℕ). verdict_of_words before.ports (words_of (content_of (record { text = line; ended = over })))) (sym (kept_is a before view good))
 
 -- what is left of a line is the word that stands there
 pub word_kept : (line word : List ℕ) (n : ℕ) → StandsIn line word n → take (length word) (drop (length line - (length word + n)) line) ≡ word
@@ -150,31 +157,31 @@ settings_no_limit ports of set (word ∷ words) =
     after_no_limit (setting_of ports of set word) (λ first. settings_of ports of (first.port ∷ set) words) (parts_no_limit ports of set word (named_part (parts_of word)))
     (λ first. settings_no_limit ports of (first.port ∷ set) words)
 
-NoLimitAsked : Meaning → Type 0
-NoLimitAsked asked.Skipped = Unit {0}
-NoLimitAsked (asked.Stepped step) = Unit {0}
-NoLimitAsked (asked.Refused fault) = passes_limit fault.reason ≡ false
+NoLimitAsked : LineVerdict → Type 0
+NoLimitAsked asked.Skip = Unit {0}
+NoLimitAsked (asked.Step step) = Unit {0}
+NoLimitAsked (asked.Bad fault) = passes_limit fault.reason ≡ false
 
-asked_no_limit : (of : StepKind) (r : Result (List Setting) Fault) → NoLimitIn r → NoLimitAsked (meaning_of_settings of r)
+asked_no_limit : (of : StepKind) (r : Result (List Setting) Fault) → NoLimitIn r → NoLimitAsked (verdict_of_settings of r)
 unfolding NoLimitIn NoLimitAsked
 asked_no_limit of (Ok settings) none = tt
 asked_no_limit of (Err fault) none = none
 
-kind_no_limit : (ports : List Port) (word : List ℕ) (of : Option StepKind) (words : List (List ℕ)) → NoLimitAsked (meaning_of_kind ports word of words)
+kind_no_limit : (ports : List Port) (word : List ℕ) (of : Option StepKind) (words : List (List ℕ)) → NoLimitAsked (verdict_of_kind ports word of words)
 unfolding NoLimitAsked
 kind_no_limit ports word None words = refl
 kind_no_limit ports word (Some of) words = asked_no_limit of (settings_of ports of [] words) (settings_no_limit ports of [] words)
 
-words_no_limit : (ports : List Port) (words : List (List ℕ)) → NoLimitAsked (meaning_of_words ports words)
+words_no_limit : (ports : List Port) (words : List (List ℕ)) → NoLimitAsked (verdict_of_words ports words)
 unfolding NoLimitAsked
 words_no_limit ports [] = tt
 words_no_limit ports (word ∷ words) =
-    elim (is_comment word) as (λ b. NoLimitAsked (if b then asked.Skipped else meaning_of_kind ports word (kind_of word) words)) [
+    elim (is_comment word) as (λ b. NoLimitAsked (if b then asked.Skip else verdict_of_kind ports word (kind_of word) words)) [
       | true ↦ tt
       | false ↦ kind_no_limit ports word (kind_of word) words
     ]
 
 -- no word of a line is refused for a limit of bytes
-pub refused_no_limit : (ports : List Port) (words : List (List ℕ)) (fault : Fault) → meaning_of_words ports words ≡ asked.Refused fault → passes_limit fault.reason ≡ false
+pub refused_no_limit : (ports : List Port) (words : List (List ℕ)) (fault : Fault) → verdict_of_words ports words ≡ asked.Bad fault → passes_limit fault.reason ≡ false
 unfolding NoLimitAsked
 refused_no_limit ports words fault is = subst NoLimitAsked is (words_no_limit ports words)

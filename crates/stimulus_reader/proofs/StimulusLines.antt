@@ -10,8 +10,8 @@ use Rattle.sv_base.specs.Steps.{Setting as Assigned}
 use Rattle.stimulus_reader.specs.declared.step.StepKind.{StepKind}
 use Rattle.stimulus_reader.specs.declared.setting.Setting.{Setting}
 use Rattle.stimulus_reader.specs.declared.setting.BadWord.{BadWord}
-use Rattle.stimulus_reader.specs.Stimulus.{Fault, without_cr, words_of, setting_of, with_setting, after_setting, settings_of, meaning_of_settings, step_of, Stepped, Refused}
-use Rattle.stimulus_reader.specs.LineReading.{setting_seen, settings_seen, ports_set, fault_seen, IsFitting, HasFront}
+use Rattle.stimulus_reader.specs.Stimulus.{Fault, without_cr, words_of, setting_of, with_setting, after_setting, settings_of, verdict_of_settings, step_of, Step, Bad}
+use Rattle.stimulus_reader.specs.code.LineReading.{setting_seen, settings_seen, ports_set, fault_seen, IsFitting, HasFront}
 
 -- ---- the CR
 
@@ -104,17 +104,17 @@ read_more ports of settings given s word rest left text words given_is gives_giv
     shown ∙ sym (all_more (settings_seen settings) (setting_seen s) (settings_of ports of (s.port ∷ ports_set settings) (words_of rest)))
     ∙ ap (with_all (settings_seen settings)) (sym one) ∙ so_far
 
-pub read_bad : (ports : List Port) (of : StepKind) (settings given : List Setting) (bad : BadWord) (word rest left text : List ℕ) → words_of left ≡ word ∷ words_of rest → given ≡ settings → Err (fault_seen bad) ≡ setting_of ports of (ports_set given) word → ReadSoFar ports of settings left text → Refused (fault_seen bad) ≡ meaning_of_settings of (settings_of ports of [] (words_of text))
+pub read_bad : (ports : List Port) (of : StepKind) (settings given : List Setting) (bad : BadWord) (word rest left text : List ℕ) → words_of left ≡ word ∷ words_of rest → given ≡ settings → Err (fault_seen bad) ≡ setting_of ports of (ports_set given) word → ReadSoFar ports of settings left text → Bad (fault_seen bad) ≡ verdict_of_settings of (settings_of ports of [] (words_of text))
 read_bad ports of settings given bad word rest left text words given_is gives_given so_far =
     let gives : Err (fault_seen bad) ≡ setting_of ports of (ports_set settings) word = gives_given ∙ ap (λ (set : List Setting). setting_of ports of (ports_set set) word) given_is in
     let go : Assigned → Result (List Assigned) Fault = λ first. settings_of ports of (first.port ∷ ports_set settings) (words_of rest) in
     let one : settings_of ports of (ports_set settings) (words_of left) ≡ Err (fault_seen bad) =
     ap (settings_of ports of (ports_set settings)) words ∙ ap (λ (r : Result Assigned Fault). after_setting r go) (sym gives) in
-    ap (meaning_of_settings of) (sym (all_bad (settings_seen settings) (fault_seen bad)) ∙ ap (with_all (settings_seen settings)) (sym one) ∙ so_far)
+    ap (verdict_of_settings of) (sym (all_bad (settings_seen settings) (fault_seen bad)) ∙ ap (with_all (settings_seen settings)) (sym one) ∙ so_far)
 
-pub read_whole : (ports : List Port) (of : StepKind) (settings : List Setting) (left text : List ℕ) → words_of left ≡ [] → ReadSoFar ports of settings left text → Stepped (step_of of (settings_seen settings)) ≡ meaning_of_settings of (settings_of ports of [] (words_of text))
+pub read_whole : (ports : List Port) (of : StepKind) (settings : List Setting) (left text : List ℕ) → words_of left ≡ [] → ReadSoFar ports of settings left text → Step (step_of of (settings_seen settings)) ≡ verdict_of_settings of (settings_of ports of [] (words_of text))
 read_whole ports of settings left text words so_far =
-    ap (meaning_of_settings of) (sym (all_good (settings_seen settings)) ∙ ap (λ (ws : List (List ℕ)). with_all (settings_seen settings) (settings_of ports of (ports_set settings) ws)) (sym words) ∙ so_far)
+    ap (verdict_of_settings of) (sym (all_good (settings_seen settings)) ∙ ap (λ (ws : List (List ℕ)). with_all (settings_seen settings) (settings_of ports of (ports_set settings) ws)) (sym words) ∙ so_far)
 
 -- ---- room for the settings of a line
 

@@ -1,8 +1,8 @@
 -- Where parts of a text stand.
 use Rattle.std.proofs.Common.{ℕ, ◌+◌, ◌-◌, List, [], ◌++◌, length, refl, ap, ◌∙◌, arith, append_assoc, length-append}
-use Rattle.stimulus_reader.specs.LineReading.{HasFront, HasPart, StandsIn, NamesPartOf}
-use Rattle.stimulus_reader.specs.declared.line.Meaning.{Meaning}
-use Rattle.stimulus_reader.specs.declared.line.Meaning.TheVariants.{Skipped, Stepped, Refused}
+use Rattle.stimulus_reader.specs.code.LineReading.{HasFront, HasPart, StandsIn, NamesPartOf}
+use Rattle.stimulus_reader.specs.declared.line.LineVerdict.{LineVerdict}
+use Rattle.stimulus_reader.specs.declared.line.LineVerdict.TheVariants.{Skip, Step, Bad}
 
 -- a part of a word stands in the text in which the word does
 pub stands_in_word : (text left word rest part : List ℕ) (n : ℕ) → HasPart text [] left → HasPart left word rest → StandsIn word part n → StandsIn text part (n + length rest)
@@ -43,7 +43,7 @@ stands_in_front text front part n f s = record {
       omega arith;
 }
 
-pub names_behind : (text word rest : List ℕ) (meaning : Meaning) → HasPart text word rest → NamesPartOf rest meaning → NamesPartOf text meaning
-names_behind text word rest Skipped cut names = tt
-names_behind text word rest (Stepped kind) cut names = tt
-names_behind text word rest (Refused bad) cut names = stands_behind text word rest bad.word.now bad.behind cut names
+pub names_behind : (text word rest : List ℕ) (verdict : LineVerdict) → HasPart text word rest → NamesPartOf rest verdict → NamesPartOf text verdict
+names_behind text word rest Skip cut names = tt
+names_behind text word rest (Step kind) cut names = tt
+names_behind text word rest (Bad bad) cut names = stands_behind text word rest bad.word.now bad.behind cut names

@@ -17,7 +17,7 @@ use Rattle.stimulus_reader.specs.declared.setting.BadWord.{BadWord}
 use Rattle.sv_base.specs.Spelling.{is_name}
 use Rattle.stimulus_reader.specs.Stimulus.{Fault, digit_of, more_digits, number_from, parts_of, before_first_part, named_part, input_from, setting_of, setting_of_parts, set_input, class_fault, valued, value_in}
 use Rattle.sv_base.specs.Classes.{is_input}
-use Rattle.stimulus_reader.specs.LineReading.{IsInputOf, IsFitting, StandsIn, ports_set}
+use Rattle.stimulus_reader.specs.code.LineReading.{IsInputOf, IsFitting, StandsIn, ports_set}
 
 -- ---- numbers
 

@@ -9,10 +9,10 @@ use Rattle.sv_base.specs.declared.face.Class.{Class}
 use Rattle.sv_base.specs.declared.face.Class.TheVariants as class
 use Rattle.sv_base.specs.declared.face.Port.{Port}
 use Rattle.sv_base.specs.Steps.{set_all}
-use Rattle.stimulus_reader.specs.Reading.{IsSettable, words_of_class}
-use Rattle.sv_base.specs.Classes.{is_clock, level_word}
+use Rattle.stimulus_reader.specs.Reading.{IsSettable}
+use Rattle.sv_base.specs.Classes.{is_clock, level_word, words_of_class}
 use Rattle.stimulus_reader.specs.declared.step.StepKind.{StepKind}
-use Rattle.stimulus_reader.specs.LineReading.{Fits, IsFitting, settings_seen}
+use Rattle.stimulus_reader.specs.code.LineReading.{Fits, IsFitting, settings_seen}
 use Rattle.stimulus_reader.specs.declared.setting.Setting.{Setting}
 
 -- ---- one port more

@@ -1,6 +1,3 @@
 pub mod Stimulus
 pub mod Reading
-pub mod LineSource
-pub mod LineReading
-pub mod Judging
-pub mod Fields
+pub mod code

@@ -7,7 +7,9 @@ use Rattle.sv_base.specs.declared.face.Class.TheVariants as class
 use Rattle.sv_base.specs.declared.face.Port.{Port}
 use Rattle.sv_base.specs.Classes.{is_input}
 use Rattle.sv_base.specs.Spelling.{is_name}
-use Rattle.sv_base.specs.Steps.{Setting, Step, Values, Clocks}
+use Rattle.sv_base.specs.Steps.{Setting, Values, Clocks}
+use Rattle.sv_base.specs.Steps as steps
+use Rattle.stimulus_reader.specs.declared.found.TheConstants.{LINE_LIMIT, FILE_LIMIT}
 use Rattle.stimulus_reader.specs.declared.reason.Reason.{Reason}
 use Rattle.stimulus_reader.specs.declared.reason.Reason.TheVariants.{NoStep, NoSetting, NoInput, IsClock, NoClock, SetTwice, NoValue, LineTooLong, FileTooLong, TooManySteps}
 use Rattle.stimulus_reader.specs.declared.step.StepKind.{StepKind}
@@ -178,18 +180,18 @@ settings_of ports of set [] = Ok []
 settings_of ports of set (word ∷ words) = after_setting (setting_of ports of set word) (λ first. settings_of ports of (first.port ∷ set) words)
 
 -- what a line asks for: nothing, where it has no words or is a comment, or a step, or it is wrong
-pub data Meaning : Type 0 where
-  Skipped : Meaning
-  Stepped : (step : Step) → Meaning
-  Refused : (fault : Fault) → Meaning
+pub data LineVerdict : Type 0 where
+  Skip : LineVerdict
+  Step : (step : steps.Step) → LineVerdict
+  Bad : (fault : Fault) → LineVerdict
 
-abbrev pub step_of : StepKind → List Setting → Step
+abbrev pub step_of : StepKind → List Setting → steps.Step
 step_of kind.Values settings = Values settings
 step_of kind.Clocks settings = Clocks settings
 
-abbrev pub meaning_of_settings : StepKind → Result (List Setting) Fault → Meaning
-meaning_of_settings of (Ok settings) = Stepped (step_of of settings)
-meaning_of_settings of (Err fault) = Refused fault
+abbrev pub verdict_of_settings : StepKind → Result (List Setting) Fault → LineVerdict
+verdict_of_settings of (Ok settings) = Step (step_of of settings)
+verdict_of_settings of (Err fault) = Bad fault
 
 -- a word that begins with `#` makes a comment of its line
 abbrev pub is_comment : List ℕ → Bool
@@ -200,29 +202,22 @@ is_comment (b ∷ bytes) = b == 35
 abbrev pub kind_of : List ℕ → Option StepKind
 kind_of word = if bytes_eq word (codes "d") then Some kind.Values else (if bytes_eq word (codes "c") then Some kind.Clocks else None)
 
-abbrev pub meaning_of_kind : List Port → List ℕ → Option StepKind → List (List ℕ) → Meaning
-meaning_of_kind ports word None words = Refused (record { reason = NoStep; word = word })
-meaning_of_kind ports word (Some of) words = meaning_of_settings of (settings_of ports of [] words)
+abbrev pub verdict_of_kind : List Port → List ℕ → Option StepKind → List (List ℕ) → LineVerdict
+verdict_of_kind ports word None words = Bad (record { reason = NoStep; word = word })
+verdict_of_kind ports word (Some of) words = verdict_of_settings of (settings_of ports of [] words)
 
 -- what the words of a line ask for
-abbrev pub meaning_of_words : List Port → List (List ℕ) → Meaning
-meaning_of_words ports [] = Skipped
-meaning_of_words ports (word ∷ words) = if is_comment word then Skipped else meaning_of_kind ports word (kind_of word) words
+abbrev pub verdict_of_words : List Port → List (List ℕ) → LineVerdict
+verdict_of_words ports [] = Skip
+verdict_of_words ports (word ∷ words) = if is_comment word then Skip else verdict_of_kind ports word (kind_of word) words
 
 -- ---- limits
-
--- the most bytes of a line without its LF, and of a file
-abbrev pub line_limit : ℕ
-line_limit = 65536
-
-abbrev pub file_limit : ℕ
-file_limit = 1073741824
 
 -- the limit that a line passes which begins at this place of the file: that whose first byte past it comes first
 abbrev pub limit_of : ℕ → Line → Option Reason
 limit_of at line =
-    if nat_lt line_limit (length line.text) && nat_le (at + line_limit) file_limit then Some LineTooLong
-    else (if nat_lt file_limit (at + span line) then Some FileTooLong else None)
+    if nat_lt LINE_LIMIT (length line.text) && nat_le (at + LINE_LIMIT) FILE_LIMIT then Some LineTooLong
+    else (if nat_lt FILE_LIMIT (at + span line) then Some FileTooLong else None)
 
 -- ---- the whole
 
@@ -233,44 +228,44 @@ pub record BadLine : Type 0 where
   pub word : List ℕ
 
 -- the steps before the first bad line, and that line where there is one
-pub record Script : Type 0 where
-  pub steps : List Step
+pub record Stimulus : Type 0 where
+  pub steps : List steps.Step
   pub bad : Option BadLine
 
-abbrev pub ended : Script
+abbrev pub ended : Stimulus
 ended = record { steps = []; bad = None }
 
-abbrev pub stopped : ℕ → Reason → List ℕ → Script
+abbrev pub stopped : ℕ → Reason → List ℕ → Stimulus
 stopped number reason word = record { steps = []; bad = Some (record { line = number; reason = reason; word = word }) }
 
-abbrev pub with_step : Step → Script → Script
+abbrev pub with_step : steps.Step → Stimulus → Stimulus
 with_step step rest = record { steps = step ∷ rest.steps; bad = rest.bad }
 
--- a line's part of the script: `more` steps may still come, `skip` is the script of the other lines, and `go` that after one step more
-abbrev pub script_of_meaning : ℕ → ℕ → Meaning → Script → Script → Script
-script_of_meaning more number Skipped skip go = skip
-script_of_meaning zero number (Stepped step) skip go = stopped number TooManySteps []
-script_of_meaning zero number (Refused fault) skip go = stopped number TooManySteps []
-script_of_meaning (suc more) number (Stepped step) skip go = with_step step go
-script_of_meaning (suc more) number (Refused fault) skip go = stopped number fault.reason fault.word
+-- a line's part of the stimulus: `more` steps may still come, `skip` is the stimulus of the other lines, and `go` that after one step more
+abbrev pub stimulus_of_verdict : ℕ → ℕ → LineVerdict → Stimulus → Stimulus → Stimulus
+stimulus_of_verdict more number Skip skip go = skip
+stimulus_of_verdict zero number (Step step) skip go = stopped number TooManySteps []
+stimulus_of_verdict zero number (Bad fault) skip go = stopped number TooManySteps []
+stimulus_of_verdict (suc more) number (Step step) skip go = with_step step go
+stimulus_of_verdict (suc more) number (Bad fault) skip go = stopped number fault.reason fault.word
 
-abbrev pub unless_limit : ℕ → Option Reason → Script → Script
-unless_limit number (Some reason) script = stopped number reason []
-unless_limit number None script = script
+abbrev pub unless_limit : ℕ → Option Reason → Stimulus → Stimulus
+unless_limit number (Some reason) rest = stopped number reason []
+unless_limit number None rest = rest
 
--- The script of lines, the first of which has this number and begins at this place of the file, where so many steps more are allowed.
+-- The stimulus of lines, the first of which has this number and begins at this place of the file, where so many steps more are allowed.
 -- A line's limits come before the count of steps, and that before what its words say.
-abbrev pub script_from : List Port → ℕ → ℕ → ℕ → List Line → Script
-script_from ports more number at [] = ended
-script_from ports more number at (line ∷ lines) =
+abbrev pub stimulus_from : List Port → ℕ → ℕ → ℕ → List Line → Stimulus
+stimulus_from ports more number at [] = ended
+stimulus_from ports more number at (line ∷ lines) =
     unless_limit number (limit_of at line)
-    (script_of_meaning more number (meaning_of_words ports (words_of (content_of line)))
-    (script_from ports more (number + 1) (at + span line) lines)
-    (script_from ports (more - 1) (number + 1) (at + span line) lines))
+    (stimulus_of_verdict more number (verdict_of_words ports (words_of (content_of line)))
+    (stimulus_from ports more (number + 1) (at + span line) lines)
+    (stimulus_from ports (more - 1) (number + 1) (at + span line) lines))
 
--- the script of a stimulus file, where at most so many steps are allowed
-abbrev pub script_of : List Port → ℕ → List ℕ → Script
-script_of ports most bytes = script_from ports most 1 0 (lines_of bytes)
+-- the stimulus of a stimulus file, where at most so many steps are allowed
+abbrev pub stimulus_of : List Port → ℕ → List ℕ → Stimulus
+stimulus_of ports most bytes = stimulus_from ports most 1 0 (lines_of bytes)
 
 -- ---- messages
 

@@ -1,11 +1,12 @@
 //! The lines of a stimulus, read from a source.
 
-ghost use Rattle.std.specs.Prelude.{◌≡◌, ◌+◌, ◌<◌, ◌≤◌, ◌++◌, length, IfOk, OnErr};
+ghost use Rattle.std.specs.Prelude.{◌≡◌, ◌+◌, ◌<◌, ◌≤◌, ◌++◌, [], true, false, length, IfOk, OnErr};
 ghost use Rattle.std.specs.Vec.{vec_capacity};
 ghost use Rattle.io_edge.specs.Fault.{Rose};
-ghost use Rattle.stimulus_reader.specs.LineSource.{LeftSo, IsNextByte, IsOpenLine, IsTurn, IsFound, FoundWithin};
+ghost use Rattle.stimulus_reader.specs.code.LineSource.{TakesSo, EndSeen, IsOpenLine, IsTurn, IsFound, FoundWithin};
 ghost use Rattle.stimulus_reader.specs.declared.found.TheConstants.{LINE_LIMIT, FILE_LIMIT};
 
+use crate::piece::Piece;
 use crate::reason::Reason;
 use io_edge::{Failed, Source};
 
@@ -33,22 +34,6 @@ enum Turn {
     Done(Found),
 }
 
-// The next byte of a source, unless it is at its end.
-fn next_byte<S: Source>(source: &mut S) -> Result<Option<u8>, Failed>
-    ensures next { IfOk result (λ byte. LeftSo (S.left source.old) (S.left source.new) (IsNextByte byte)) }
-    ensures kept { OnErr result (S.left source.new ≡ S.left source.old) }
-    ensures cause { OnErr result (Rose (S.faults source.old) (S.faults source.new)) }
-    ensures ground { S.same_ground source.old source.new }
-    ensures later { S.faults source.old ≤ S.faults source.new }
-{
-    let mut byte = [0u8; 1];
-    match source.read(&mut byte) {
-        Ok(0) => Ok(None),
-        Ok(_) => Ok(Some(byte[0])),
-        Err(Failed) => Err(Failed),
-    }
-}
-
 // What the next byte makes of a line of so many bytes, which begins at this place of the file.
 fn next_turn(at: u64, len: usize, byte: Option<u8>) -> Turn
     requires line { len ≤ LINE_LIMIT }
@@ -73,15 +58,26 @@ fn next_turn(at: u64, len: usize, byte: Option<u8>) -> Turn
 }
 
 /// Reads on in the line that begins at this place of the file, without its LF, behind the bytes of it that `line` has.
-/// No byte past a limit is read but the first. A read that failed leaves in `line` what was read.
-pub fn take_line<S: Source>(at: u64, line: &mut Vec<u8>, source: &mut S) -> Result<Found, Failed>
+/// A read that failed leaves in `line` what was read.
+pub fn take_line<S: Source>(
+    at: u64,
+    line: &mut Vec<u8>,
+    piece: &mut Piece,
+    source: &mut S,
+) -> Result<Found, Failed>
     requires begun { IsOpenLine at line.old.items }
     requires room { LINE_LIMIT ≤ vec_capacity line.old }
-    ensures found { IfOk result (λ found. LeftSo (S.left source.old) (S.left source.new)
+    ensures found { IfOk result
+        (λ found. TakesSo (S.left source.old) (S.left source.new) piece.old piece.new
         (λ bytes rest. IsFound at line.new.items found (line.old.items ++ bytes) rest)) }
+    ensures at_end { IfOk result
+        (λ found. found ≡ Found.End → (line.new.items ≡ [])
+        × (piece.new ≡ record { bytes = []; over = true })) }
     ensures within { IfOk result (FoundWithin at line.new.items) }
-    ensures kept { OnErr result (LeftSo (S.left source.old) (S.left source.new)
+    ensures kept { OnErr result (TakesSo (S.left source.old) (S.left source.new) piece.old piece.new
         (λ bytes rest. line.old.items ++ bytes ≡ line.new.items ++ rest)) }
+    ensures reads_on { OnErr result (piece.new.over ≡ false) }
+    ensures end { EndSeen piece.old (S.left source.old) → EndSeen piece.new (S.left source.new) }
     ensures front { IsOpenLine at line.new.items }
     ensures capacity { vec_capacity line.new ≡ vec_capacity line.old }
     ensures cause { OnErr result (Rose (S.faults source.old) (S.faults source.new)) }
@@ -89,7 +85,7 @@ pub fn take_line<S: Source>(at: u64, line: &mut Vec<u8>, source: &mut S) -> Resu
     ensures later { S.faults source.old ≤ S.faults source.new }
 {
     'bytes: loop {
-        match next_turn(at, line.len(), next_byte(source)?) {
+        match next_turn(at, line.len(), piece.next_byte(source)?) {
             Turn::More(byte) => line.push_reserved(byte),
             Turn::Done(found) => return Ok(found),
         }

@@ -4,8 +4,8 @@ ghost use Rattle.std.specs.Prelude.{◌≡◌, ◌≤◌, ◌++◌, List, ℕ, [
 ghost use Rattle.std.specs.List.{AllByRecursion};
 ghost use Rattle.std.specs.Vec.{vec_capacity};
 ghost use Rattle.bit_ops.specs.Width.{IsWidth};
-ghost use Rattle.stimulus_reader.specs.Stimulus.{without_cr, words_of, content_of, settings_of, meaning_of_settings, meaning_of_words, is_comment, kind_of};
-ghost use Rattle.stimulus_reader.specs.LineReading.{HasFront, IsFitting, NamesPartOf, meaning_seen};
+ghost use Rattle.stimulus_reader.specs.Stimulus.{without_cr, words_of, content_of, settings_of, verdict_of_settings, verdict_of_words, is_comment, kind_of};
+ghost use Rattle.stimulus_reader.specs.code.LineReading.{HasFront, IsFitting, NamesPartOf, verdict_seen};
 
 use crate::reason::Reason;
 use crate::setting::{BadWord, Setting, read_setting};
@@ -15,13 +15,13 @@ use sv_base::Port;
 
 /// What a line asks for.
 #[derive(Clone, Copy, Debug, PartialEq, Eq)]
-pub enum Meaning<'a> {
+pub enum LineVerdict<'a> {
     /// Nothing: the line has no words, or is a comment.
-    Skipped,
+    Skip,
     /// A step of this kind, whose settings stand beside.
-    Stepped(StepKind),
+    Step(StepKind),
     /// Nothing that is known.
-    Refused(BadWord<'a>),
+    Bad(BadWord<'a>),
 }
 
 // The bytes without a CR at their end.
@@ -53,10 +53,11 @@ fn read_settings<'a>(
     kind: StepKind,
     text: &'a [u8],
     settings: &mut Vec<Setting>,
-) -> Meaning<'a>
+) -> LineVerdict<'a>
     requires widths { AllByRecursion (λ p. IsWidth p.width) ports.now }
     requires room { length ports.now ≤ vec_capacity settings.old }
-    ensures gives { meaning_seen settings.new.items result ≡ meaning_of_settings kind (settings_of ports.now kind [] (words_of text.now)) }
+    ensures gives { verdict_seen settings.new.items result
+        ≡ verdict_of_settings kind (settings_of ports.now kind [] (words_of text.now)) }
     ensures fitting { AllByRecursion (IsFitting ports.now kind) settings.new.items }
     ensures part { NamesPartOf text.now result }
     ensures capacity { vec_capacity settings.new ≡ vec_capacity settings.old }
@@ -67,7 +68,7 @@ fn read_settings<'a>(
         match read_setting(ports, kind, settings, word) {
             Ok(setting) => settings.push_reserved(setting),
             Err(bad) => {
-                return Meaning::Refused(BadWord {
+                return LineVerdict::Bad(BadWord {
                     reason: bad.reason,
                     word: bad.word,
                     behind: bad.behind + rest.len(),
@@ -76,7 +77,7 @@ fn read_settings<'a>(
         }
         left = rest;
     }
-    Meaning::Stepped(kind)
+    LineVerdict::Step(kind)
 }
 
 fn begins_comment(word: &[u8]) -> bool
@@ -102,23 +103,25 @@ fn kind_of(word: &[u8]) -> Option<StepKind>
 }
 
 // What the words of a text ask for.
-fn read_words<'a>(ports: &[Port], text: &'a [u8], settings: &mut Vec<Setting>) -> Meaning<'a>
+fn read_words<'a>(ports: &[Port], text: &'a [u8], settings: &mut Vec<Setting>) -> LineVerdict<'a>
     requires widths { AllByRecursion (λ p. IsWidth p.width) ports.now }
     requires room { length ports.now ≤ vec_capacity settings.old }
-    ensures gives { meaning_seen settings.new.items result ≡ meaning_of_words ports.now (words_of text.now) }
-    ensures fitting { (kind : StepKind) → result ≡ Meaning.Stepped kind → AllByRecursion (IsFitting ports.now kind) settings.new.items }
+    ensures gives { verdict_seen settings.new.items result
+        ≡ verdict_of_words ports.now (words_of text.now) }
+    ensures fitting { (kind : StepKind) → result ≡ LineVerdict.Step kind
+        → AllByRecursion (IsFitting ports.now kind) settings.new.items }
     ensures part { NamesPartOf text.now result }
     ensures capacity { vec_capacity settings.new ≡ vec_capacity settings.old }
 {
     let Some((word, rest)) = next_word(text) else {
-        return Meaning::Skipped;
+        return LineVerdict::Skip;
     };
     if begins_comment(word) {
-        return Meaning::Skipped;
+        return LineVerdict::Skip;
     }
     match kind_of(word) {
         Some(kind) => read_settings(ports, kind, rest, settings),
-        None => Meaning::Refused(BadWord {
+        None => LineVerdict::Bad(BadWord {
             reason: Reason::NoStep,
             word,
             behind: rest.len(),
@@ -132,19 +135,22 @@ pub fn read_line<'a>(
     line: &'a [u8],
     ended: bool,
     settings: &mut Vec<Setting>,
-) -> Meaning<'a>
+) -> LineVerdict<'a>
     requires widths { AllByRecursion (λ p. IsWidth p.width) ports.now }
     requires room { length ports.now ≤ vec_capacity settings.old }
-    ensures gives { meaning_seen settings.new.items result ≡ meaning_of_words ports.now (words_of (content_of (record { text = line.now; ended = ended }))) }
-    ensures fitting { (kind : StepKind) → result ≡ Meaning.Stepped kind → AllByRecursion (IsFitting ports.now kind) settings.new.items }
+    ensures gives { verdict_seen settings.new.items result
+        ≡ verdict_of_words ports.now
+        (words_of (content_of (record { text = line.now; ended = ended }))) }
+    ensures fitting { (kind : StepKind) → result ≡ LineVerdict.Step kind
+        → AllByRecursion (IsFitting ports.now kind) settings.new.items }
     ensures part { NamesPartOf line.now result }
     ensures capacity { vec_capacity settings.new ≡ vec_capacity settings.old }
 {
     let said = content(line, ended);
     match read_words(ports, said, settings) {
-        Meaning::Skipped => Meaning::Skipped,
-        Meaning::Stepped(kind) => Meaning::Stepped(kind),
-        Meaning::Refused(bad) => Meaning::Refused(BadWord {
+        LineVerdict::Skip => LineVerdict::Skip,
+        LineVerdict::Step(kind) => LineVerdict::Step(kind),
+        LineVerdict::Bad(bad) => LineVerdict::Bad(BadWord {
             reason: bad.reason,
             word: bad.word,
             behind: bad.behind + (line.len() - said.len()),

@@ -8,7 +8,7 @@ ghost use Rattle.bit_ops.specs.Width.{IsWidth};
 ghost use Rattle.sv_base.specs.Spelling.{is_name};
 ghost use Rattle.stimulus_reader.specs.Stimulus.{digit_of, number_from, word_in, level_in, value_in, parts_of, named_part, input_from, class_fault, set_input, setting_of};
 ghost use Rattle.sv_base.specs.Classes.{is_input};
-ghost use Rattle.stimulus_reader.specs.LineReading.{IsInputOf, IsFitting, StandsIn, ports_set, setting_result};
+ghost use Rattle.stimulus_reader.specs.code.LineReading.{IsInputOf, IsFitting, StandsIn, ports_set, setting_result};
 
 use crate::reason::Reason;
 use crate::step::StepKind;
@@ -123,7 +123,8 @@ fn has_form(name: &[u8], text: &[u8]) -> bool
 
 // The name and the value's text, where the word has the form of a setting.
 fn parts(word: &[u8]) -> Option<(&[u8], &[u8])>
-    ensures { option_map (λ parts. (parts.0.now, parts.1.now)) result ≡ named_part (parts_of word.now) }
+    ensures { option_map (λ parts. (parts.0.now, parts.1.now)) result
+        ≡ named_part (parts_of word.now) }
 {
     let (name, text) = split_parts(word)?;
     if has_form(name, text) {
@@ -158,7 +159,8 @@ fn is_set(set: &[Setting], port: usize) -> bool
 
 // The place of the input that a name means.
 fn input(ports: &[Port], name: &[u8]) -> Option<usize>
-    ensures found { MatchOption result (input_from 0 ports.now name.now ≡ None) (IsInputOf ports.now name.now) }
+    ensures found { MatchOption result (input_from 0 ports.now name.now ≡ None)
+        (IsInputOf ports.now name.now) }
     ensures there { IfSome result (λ place. place < length ports.now) }
 {
     position_of_input(ports, name)
@@ -191,12 +193,14 @@ fn set_port<'a>(
     text: &'a [u8],
 ) -> Result<Setting, BadWord<'a>>
     requires { IsWidth port.now.width }
-    ensures gives { setting_result result ≡ set_input kind (ports_set set.now) name.now text.now (Some (at, port.now)) }
+    ensures gives { setting_result result
+        ≡ set_input kind (ports_set set.now) name.now text.now (Some (at, port.now)) }
     ensures place { IfOk result (λ s. s.port ≡ at) }
     ensures width { IfOk result (λ s. s.value.width ≡ port.now.width) }
     ensures allowed { IfOk result (λ s. class_fault kind port.now.class port.now.width ≡ None) }
     ensures once { IfOk result (λ s. list_any (λ other. other.port == at) set.now ≡ false) }
-    ensures part { IfErr result (λ bad. StandsIn (name.now ++ 61 ∷ text.now) bad.word.now bad.behind) }
+    ensures part { IfErr result
+        (λ bad. StandsIn (name.now ++ 61 ∷ text.now) bad.word.now bad.behind) }
 {
     let behind = text.len() + 1;
     if let Some(reason) = class_fault(kind, port.class, port.width) {

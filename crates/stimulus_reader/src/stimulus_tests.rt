@@ -31,7 +31,8 @@ fn port(alloc: Global, name: &[u8], class: Class, width: u32) -> Result<Port, Al
 // one bit and `i` of 8.
 fn face(alloc: Global) -> Result<Face, AllocError>
     ensures widths { IfOk result (λ face. AllByRecursion (λ p. IsWidth p.width) face.ports) }
-    ensures clocks { IfOk result (λ face. AllByRecursion (λ p. p.class ≡ Clock → p.width ≡ 1) face.ports) }
+    ensures clocks { IfOk result
+        (λ face. AllByRecursion (λ p. p.class ≡ Clock → p.width ≡ 1) face.ports) }
     ensures distinct { IfOk result (λ face. IsDistinct bytes_eq (map (λ p. p.name) face.ports)) }
 {
     let mut ports = Sequence::new(alloc);
@@ -48,13 +49,14 @@ fn face(alloc: Global) -> Result<Face, AllocError>
     })
 }
 
-fn source(alloc: Global, bytes: &[u8]) -> Result<MemSource, AllocError> {
+// A source of these bytes, of which a read takes at most so many, and at least one.
+fn source(alloc: Global, bytes: &[u8], most: usize) -> Result<MemSource, AllocError> {
     Ok(MemSource {
         bytes: Vec::from_slice(alloc, bytes)?,
         at: 0,
         fail: Vec::new(alloc),
         calls: 0,
-        most: 1,
+        most: most.max(1),
     })
 }
 
@@ -109,7 +111,7 @@ fn told(
     Ok(told)
 }
 
-const SCRIPTS: [(&str, &str); 48] = [
+const STIMULI: [(&str, &str); 48] = [
     ("", "."),
     ("\n\n \t\n", "."),
     ("d a=1\n", ";d 1 0 0/ 0."),
@@ -166,15 +168,18 @@ const SCRIPTS: [(&str, &str); 48] = [
 #[test]
 fn stimuli_say_their_steps(rt: HostRuntime) -> Result<(), Fail> {
     let face = face(rt.alloc())?;
-    for (text, wanted) in SCRIPTS {
-        let mut source = source(rt.alloc(), text.as_bytes())?;
-        let mut reader = StepReader::new(rt.alloc(), &face)?;
-        let told = told(&rt, &mut reader, &mut source)?;
-        assert_eq!(rt; told.as_str(), wanted, "{text:?}");
+    for (text, wanted) in STIMULI {
+        for most in [1, 2, 7, 4_096] {
+            let mut source = source(rt.alloc(), text.as_bytes(), most)?;
+            let mut reader = StepReader::new(rt.alloc(), &face)?;
+            let told = told(&rt, &mut reader, &mut source)?;
+            assert_eq!(rt; told.as_str(), wanted, "{text:?} {most}");
+        }
     }
     Ok(())
 }
 
+// The first of these lines comes in 17 pieces of 4,096 bytes.
 #[test]
 fn a_line_has_at_most_65536_bytes(rt: HostRuntime) -> Result<(), Fail> {
     let alloc = rt.alloc();
@@ -187,36 +192,74 @@ fn a_line_has_at_most_65536_bytes(rt: HostRuntime) -> Result<(), Fail> {
         (65_535, "\r\nd a=1\n", ";d 1 0 0/ 0."),
         (65_536, "\r\nd a=1\n", "! 1 LineTooLong "),
     ] {
-        let mut bytes = vec![in alloc; b'#'; count]?;
-        bytes.extend_from_slice(end.as_bytes())?;
-        let mut source = source(alloc, &bytes)?;
-        let mut reader = StepReader::new(alloc, &face)?;
-        let told = told(&rt, &mut reader, &mut source)?;
-        assert_eq!(rt; told.as_str(), wanted, "{count}");
+        for most in [7, 4_096] {
+            let mut bytes = vec![in alloc; b'#'; count]?;
+            bytes.extend_from_slice(end.as_bytes())?;
+            let mut source = source(alloc, &bytes, most)?;
+            let mut reader = StepReader::new(alloc, &face)?;
+            let told = told(&rt, &mut reader, &mut source)?;
+            assert_eq!(rt; told.as_str(), wanted, "{count} {most}");
+        }
     }
     Ok(())
 }
 
-// Of 18 reads, the 7th ends the first line, the 17th the second, and the 18th finds the end.
+// A comment of so many bytes, and then a step whose LF begins the second piece, whose CR does, or whose number.
+#[test]
+fn a_line_may_be_cut_anywhere(rt: HostRuntime) -> Result<(), Fail> {
+    let alloc = rt.alloc();
+    let face = face(alloc)?;
+    for count in [4_089, 4_090, 4_091] {
+        let mut bytes = vec![in alloc; b'#'; count]?;
+        bytes.extend_from_slice(b"\nd a=1\r\nd w=2\r\n")?;
+        let mut source = source(alloc, &bytes, 4_096)?;
+        let mut reader = StepReader::new(alloc, &face)?;
+        let told = told(&rt, &mut reader, &mut source)?;
+        assert_eq!(rt; told.as_str(), ";d 1 0 0/ 0;d 1 2 0/ 0.", "{count}");
+    }
+    Ok(())
+}
+
+// The reads that take 7 bytes end the first line, stand in the second twice, stand in the third, end it, and find the end.
+// One read takes all, and a second finds the end.
 #[test]
 fn a_read_that_failed_loses_nothing(rt: HostRuntime) -> Result<(), Fail> {
     let alloc = rt.alloc();
     let face = face(alloc)?;
-    for k in 1..20 {
-        let mut source = source(alloc, b"d w=2\r\nd a=1 w=3\n")?;
+    for (most, k, wanted) in [
+        (7, 1, "?;d 0 2 0/ 0;d 1 3 0/ 0;d 0 3 0/ 0."),
+        (7, 2, ";d 0 2 0/ 0?;d 1 3 0/ 0;d 0 3 0/ 0."),
+        (7, 3, ";d 0 2 0/ 0?;d 1 3 0/ 0;d 0 3 0/ 0."),
+        (7, 4, ";d 0 2 0/ 0;d 1 3 0/ 0?;d 0 3 0/ 0."),
+        (7, 5, ";d 0 2 0/ 0;d 1 3 0/ 0;d 0 3 0/ 0?."),
+        (7, 6, ";d 0 2 0/ 0;d 1 3 0/ 0;d 0 3 0/ 0."),
+        (4_096, 1, "?;d 0 2 0/ 0;d 1 3 0/ 0;d 0 3 0/ 0."),
+        (4_096, 2, ";d 0 2 0/ 0;d 1 3 0/ 0;d 0 3 0/ 0?."),
+        (4_096, 3, ";d 0 2 0/ 0;d 1 3 0/ 0;d 0 3 0/ 0."),
+    ] {
+        let mut source = source(alloc, b"d w=2\r\nd a=1 w=3\nd a=0\n", most)?;
         source.fail.push(k)?;
         let mut reader = StepReader::new(alloc, &face)?;
         let told = told(&rt, &mut reader, &mut source)?;
-        let wanted = if k <= 7 {
-            "?;d 0 2 0/ 0;d 1 3 0/ 0."
-        } else if k <= 17 {
-            ";d 0 2 0/ 0?;d 1 3 0/ 0."
-        } else if k == 18 {
-            ";d 0 2 0/ 0;d 1 3 0/ 0?."
-        } else {
-            ";d 0 2 0/ 0;d 1 3 0/ 0."
-        };
-        assert_eq!(rt; told.as_str(), wanted, "{k}");
+        assert_eq!(rt; told.as_str(), wanted, "{most} {k}");
+    }
+    Ok(())
+}
+
+// One read takes both lines, and only behind them a second finds the end, after which there is none.
+#[test]
+fn whole_lines_are_given_before_a_read(rt: HostRuntime) -> Result<(), Fail> {
+    let alloc = rt.alloc();
+    let face = face(alloc)?;
+    let mut source = source(alloc, b"d a=1\nc clk=1", 4_096)?;
+    let mut reader = StepReader::new(alloc, &face)?;
+    assert_eq!(rt; reader.next_step(&mut source), Ok(Some(StepKind::Values)));
+    assert_eq!(rt; source.calls, 1);
+    assert_eq!(rt; reader.next_step(&mut source), Ok(Some(StepKind::Clocks)));
+    assert_eq!(rt; source.calls, 2);
+    for _ in 0..3 {
+        assert_eq!(rt; reader.next_step(&mut source), Ok(None));
+        assert_eq!(rt; source.calls, 2);
     }
     Ok(())
 }
@@ -225,7 +268,7 @@ fn a_read_that_failed_loses_nothing(rt: HostRuntime) -> Result<(), Fail> {
 fn a_bad_line_is_told_again(rt: HostRuntime) -> Result<(), Fail> {
     let alloc = rt.alloc();
     let face = face(alloc)?;
-    let mut source = source(alloc, b"\nd a=1\nd w=7 a=3 q=1\nd a=0\n")?;
+    let mut source = source(alloc, b"\nd a=1\nd w=7 a=3 q=1\nd a=0\n", 1)?;
     let mut reader = StepReader::new(alloc, &face)?;
     assert_eq!(rt; reader.line_number(), 0);
     assert!(rt; reader.word().is_empty());
@@ -276,7 +319,7 @@ fn values(rt: &(impl AllocGlobal + Abort), face: &Face, reader: &StepReader) -> 
 fn values_are_those_of_the_places(rt: HostRuntime) -> Result<(), Fail> {
     let alloc = rt.alloc();
     let face = face(alloc)?;
-    let mut source = source(alloc, b"d i=a5 q=9 e=1\nc e=0 clk=1\n")?;
+    let mut source = source(alloc, b"d i=a5 q=9 e=1\nc e=0 clk=1\n", 4_096)?;
     let mut reader = StepReader::new(alloc, &face)?;
     assert_eq!(rt; reader.next_step(&mut source), Ok(Some(StepKind::Values)));
     let told = values(&rt, &face, &reader)?;

@@ -3,7 +3,7 @@
 ghost use Rattle.std.specs.Prelude.{◌≡◌, ◌<◌, [], ◌∷◌, length, not, MatchOption, IfSome};
 ghost use Rattle.std.specs.List.{position};
 ghost use Rattle.stimulus_reader.specs.Stimulus.{separates, words_of};
-ghost use Rattle.stimulus_reader.specs.LineReading.{HasPart};
+ghost use Rattle.stimulus_reader.specs.code.LineReading.{HasPart};
 
 fn is_blank(byte: u8) -> bool
     ensures { result ≡ separates byte }

@@ -1,5 +1,5 @@
 use Rattle.std.proofs.Common.{refl, ◌∙◌, ◌<◌, arith, length}
-use Rattle.stimulus_reader.specs.LineReading.{IsFitting}
+use Rattle.stimulus_reader.specs.code.LineReading.{IsFitting}
 use Rattle.stimulus_reader.proofs.StimulusParts.{passed_none, passed_word, stands_in_word}
 use Rattle.stimulus_reader.proofs.StimulusLines.{read_more, read_bad, read_whole, all_more_fit, apart_none, apart_more, room_left}
 use Rattle.stimulus_reader.proofs.line.read_settings.Goals as goal

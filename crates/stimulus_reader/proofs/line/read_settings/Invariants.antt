@@ -1,7 +1,7 @@
 use Rattle.std.proofs.Common.{◌≡◌, [], eqb, length}
 use Rattle.std.specs.List.{AllByRecursion, IsDistinct}
 use Rattle.std.specs.Vec.{vec_capacity}
-use Rattle.stimulus_reader.specs.LineReading.{HasPart, IsFitting, ports_set}
+use Rattle.stimulus_reader.specs.code.LineReading.{HasPart, IsFitting, ports_set}
 use Rattle.stimulus_reader.proofs.StimulusLines.{ReadSoFar}
 use Rattle.stimulus_reader.proofs.line.read_settings.Given as goal
 

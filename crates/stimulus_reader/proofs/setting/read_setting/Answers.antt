@@ -1,5 +1,5 @@
 use Rattle.std.proofs.Common.{sym, subst, ◌∙◌, ◌+◌, List, ℕ, length, IfErr}
-use Rattle.stimulus_reader.specs.LineReading.{StandsIn}
+use Rattle.stimulus_reader.specs.code.LineReading.{StandsIn}
 use Rattle.stimulus_reader.proofs.StimulusSettings.{whole_stands, name_stands, parts_whole, port_at, setting_gives, setting_fits}
 use Rattle.stimulus_reader.proofs.setting.read_setting.Goals as goal
 

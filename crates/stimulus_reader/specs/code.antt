@@ -1,0 +1,4 @@
+pub mod LineSource
+pub mod LineReading
+pub mod Judging
+pub mod Fields
