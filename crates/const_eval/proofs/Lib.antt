@@ -1,5 +1,4 @@
 pub mod Powers
-pub mod Spelling
 pub mod Naming
 pub mod Joining
 pub mod Places

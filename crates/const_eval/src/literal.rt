@@ -1,45 +1,12 @@
 //! Numbers and fills, by their texts (IEEE 1800-2017, 5.7.1).
 
-ghost use Rattle.std.specs.Prelude.{◌≡◌, ◌≤◌, ◌+◌, ◌*◌, ◌^◌, ◌==◌, MatchOption, option_map, position};
-ghost use Rattle.sv_lexer.specs.Bytes as bytes_spec;
+ghost use Rattle.std.specs.Prelude.{◌≡◌, ◌≤◌, ◌^◌, ◌==◌, MatchOption, option_map, position};
 ghost use Rattle.const_eval.specs.Literal as spec;
 ghost use Rattle.const_eval.specs.Agreeing.{literal_of};
 
 use crate::env::Const;
 use bit_ops::{Bits, MAX_WIDTH, Word};
-
-/// What a digit counts in its place.
-fn digit_value(digit: u8) -> Word
-    ensures { result ≡ bytes_spec.digit_value digit }
-{
-    match digit {
-        b'0'..=b'9' => Word::from(digit - b'0'),
-        b'a'..=b'f' => Word::from(digit - b'a' + 10),
-        b'A'..=b'F' => Word::from(digit - b'A' + 10),
-        _ => 16,
-    }
-}
-
-/// The number with one more digit, where a word holds it.
-fn with_digit(value: Word, radix: Word, digit: Word) -> Option<Word>
-    ensures { MatchOption result (2 ^ 64 ≤ value * radix + digit) (λ v. v ≡ value * radix + digit) }
-{
-    value.checked_mul(radix)?.checked_add(digit)
-}
-
-/// The number that digits spell, with each `_` passed over, where a word holds it.
-fn spelled(radix: Word, digits: &[u8]) -> Option<Word>
-    requires { 1 ≤ radix }
-    ensures { MatchOption result (2 ^ 64 ≤ bytes_spec.spelled radix digits.now) (λ v. v ≡ bytes_spec.spelled radix digits.now) }
-{
-    let mut value = 0;
-    for digit in digits {
-        if *digit != b'_' {
-            value = with_digit(value, radix, digit_value(*digit))?;
-        }
-    }
-    Some(value)
-}
+use sv_lexer::value_of_digits;
 
 /// How many digits the base of a letter has.
 fn radix(letter: u8) -> Option<Word>
@@ -59,7 +26,7 @@ fn cut(size: Word, signed: bool, radix: Word, digits: &[u8]) -> Option<Const>
     requires { 1 ≤ radix }
     ensures { option_map literal_of result ≡ spec.cut_to size signed radix digits.now }
 {
-    let word = spelled(radix, digits)?;
+    let word = value_of_digits(radix, digits)?;
     if size == 0 || size > Word::from(MAX_WIDTH) {
         return None;
     }
@@ -96,7 +63,7 @@ fn size(digits: &[u8]) -> Option<Word>
     if digits.is_empty() {
         Some(32)
     } else {
-        spelled(10, digits)
+        value_of_digits(10, digits)
     }
 }
 

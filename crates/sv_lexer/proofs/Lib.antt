@@ -4,7 +4,7 @@ pub mod Longest
 pub mod Numbers
 pub mod Front
 pub mod Marks
-pub mod Values
+pub mod Spelling
 pub mod Cut
 pub mod Unique
 pub mod Worked

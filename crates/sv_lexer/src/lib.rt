@@ -19,6 +19,7 @@ mod value;
 pub use laws::{not_both, one_list, one_refusal};
 pub use lexer::lex;
 pub use token::{LexFault, Token, TokenKind};
+pub use value::value_of_digits;
 
 #[cfg(test)]
 mod tests;

@@ -16,20 +16,20 @@ fn with_digit(value: u64, radix: u64, digit: u64) -> Option<u64>
     value.checked_mul(radix)?.checked_add(digit)
 }
 
-/// The number that the digits spell, where a word holds it.
-fn value_of(radix: u64, mut digits: &[u8]) -> Option<u64>
+/// The number that digits of this radix spell, with each `_` passed over, where 64 bits hold it. No digit spells 0. A byte
+/// that is no digit counts 16 (IEEE 1800-2017, 5.7.1).
+pub fn value_of_digits(radix: u64, digits: &[u8]) -> Option<u64>
     requires { 1 ≤ radix }
-    ensures { MatchOption result (2 ^ 64 ≤ bytes_spec.spelled radix digits.entry.now) (λ v. v ≡ bytes_spec.spelled radix digits.entry.now) }
+    ensures { MatchOption
+        result
+        (2 ^ 64 ≤ bytes_spec.spelled radix digits.now)
+        (λ v. v ≡ bytes_spec.spelled radix digits.now) }
 {
     let mut value = 0;
-    while let [digit, rest @ ..] = digits {
+    for digit in digits {
         if *digit != b'_' {
-            let Some(more) = with_digit(value, radix, digit_value(*digit)) else {
-                return None;
-            };
-            value = more;
+            value = with_digit(value, radix, digit_value(*digit))?;
         }
-        digits = rest;
     }
     Some(value)
 }
@@ -38,7 +38,7 @@ fn value_of(radix: u64, mut digits: &[u8]) -> Option<u64>
 pub fn decimal_fault(piece: &[u8]) -> Option<Kind>
     ensures { result ≡ piece_spec.decimal_fault piece.now }
 {
-    match value_of(10, piece) {
+    match value_of_digits(10, piece) {
         Some(value) if value <= 2147483647 => None,
         _ => Some(Kind::BadNumber),
     }
@@ -58,14 +58,14 @@ fn good_value(base: Base, digits: &[u8]) -> Option<u64>
     if digits.is_empty() || has_unknown(digits) {
         None
     } else {
-        value_of(radix(base), digits)
+        value_of_digits(radix(base), digits)
     }
 }
 
 fn size_fault(size: &[u8]) -> Option<Kind>
     ensures { result ≡ piece_spec.size_fault size.now }
 {
-    match value_of(10, size) {
+    match value_of_digits(10, size) {
         Some(0) => Some(Kind::BadNumber),
         Some(width) if width <= GREATEST_WIDTH => None,
         _ => Some(Kind::TooWide),

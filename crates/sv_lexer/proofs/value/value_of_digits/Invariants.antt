@@ -1,7 +1,7 @@
 use Rattle.std.proofs.Common.{◌≡◌, drop}
 use Rattle.sv_lexer.specs.Bytes.{spelled}
-use Rattle.const_eval.proofs.Spelling.{read}
-use Rattle.const_eval.proofs.literal.spelled.Given as goal
+use Rattle.sv_lexer.proofs.Spelling.{read}
+use Rattle.sv_lexer.proofs.value.value_of_digits.Given as goal
 
 -- what was read and the digits left make up the number
 abbrev pub invariant-loop-digit : goal.invariant-loop-digit
