@@ -1,5 +1,5 @@
 -- What reading gives where tokens are left, told by those tokens alone.
-use Rattle.std.proofs.Common.{◌≡◌, ◌∙◌, inl, inr, ℕ, ◌+◌, ◌-◌, ◌==◌, ◌≤◌, Bool, true, false, not, ◌&&◌, List, [], ◌∷◌, ◌++◌, length, drop, Some, Ok, Err, refl, sym, ap, subst, arith, codes, append_assoc, append-nil, length-append, length-drop, drop-drop}
+use Rattle.std.proofs.Common.{◌≡◌, ◌∙◌, inl, inr, ◌+◌, ◌==◌, ◌≤◌, Bool, true, false, not, ◌&&◌, List, [], ◌∷◌, ◌++◌, length, Some, Result, Ok, Err, IfOk, IfErr, refl, sym, ap, subst, arith, codes, append_assoc, append-nil}
 use Rattle.std.proofs.lemmas.Bool.{eqb-true}
 use Rattle.sv_base.specs.declared.refusal.Refusal.{Refusal}
 use Rattle.sv_lexer.specs.declared.token.Token.{Token}
@@ -10,9 +10,9 @@ use Rattle.expr_parser.specs.Spelling.{is_this, binds}
 use Rattle.expr_parser.specs.Grammar.{Phrase, tokens_of, IsPhrase, strength, tree_of}
 use Rattle.expr_parser.specs.Nesting.{nesting, greatest_nesting}
 use Rattle.expr_parser.specs.Outcome.{grammar_tokens, Begins, NoneGoesOn}
-use Rattle.expr_parser.specs.Input.{Input, Outcome, past_marks, front_of, behind}
+use Rattle.expr_parser.specs.Input.{Input, Outcome, Gives, past_marks, front_of, behind}
 use Rattle.expr_parser.specs.Reading.{any}
-use Rattle.expr_parser.specs.Steady.{ends_expression, ReadsFrom, StopsAt, TooDeepAt, RefusesAt, input_at, Leaves}
+use Rattle.expr_parser.specs.Steady.{ends_expression, ReadsFrom, StopsAt, TooDeepAt, RefusesAt, IsFaultAt}
 use Rattle.expr_parser.proofs.Machine.{wants, failed, step, steps, operand_of}
 use Rattle.expr_parser.proofs.Took.{grammar_tokens-front, grammar_tokens-append, refusal_at-front, marked_front}
 use Rattle.expr_parser.proofs.Complete.{steps-append, none_begins, ends_with, step-end}
@@ -119,25 +119,16 @@ exact_reading_lem i fine =
     let all = judged_any i (primary_is i) fine in
     (λ tree k is. read_from i tree k (subst P is all), λ e is. refused_at i e (subst P is all))
 
--- ---- what is left behind a tree stands in the list from its place on
+-- ---- what a function ensures that gives what the definition of reading does
 
-drop_front : (a b : List Token) → drop (length a) (a ++ b) ≡ b
-drop_front [] b = refl
-drop_front (t ∷ a) b = drop_front a b
+pub any_read : (i k : Input) (r : Result Expr ParseFault) → Gives (any i) r k → i.nested ≤ greatest_nesting → IfOk r (λ tree. ReadsFrom i tree k)
+any_read i k (Ok tree) is fine = (exact_reading_lem i fine).0 tree k is
+any_read i k (Err e) is fine = tt
 
-pub leaves_lem : (tokens : List Token) (at depth : ℕ) → at ≤ length tokens → depth ≤ greatest_nesting → (tree : Expr) (k : Input)
-    → any (input_at tokens at depth) ≡ Ok (tree, k) → Leaves tokens (input_at tokens at depth) tree (length tokens - length k.rest)
-leaves_lem tokens at depth le fine tree k is =
-    let r = (exact_reading_lem (input_at tokens at depth) fine).0 tree k is in
-    let whole : length (drop at tokens) ≡ length (r.front ++ k.rest) = ap length r.rest_is in
-    let place : length tokens - length k.rest ≡ at + length r.front = omega (arith, whole, length-append r.front k.rest, length-drop at tokens) in
-    record {
-      there = k;
-      is = is;
-      place = refl;
-      rest_is = ap (λ n. drop n tokens) place ∙ sym (drop-drop (length r.front) at tokens) ∙ ap (λ ts. drop (length r.front) ts) r.rest_is ∙ drop_front r.front k.rest;
-      within = omega arith;
-    }
+pub any_refused : (i k : Input) (r : Result Expr ParseFault) → Gives (any i) r k → i.nested ≤ greatest_nesting → IfErr r (IsFaultAt i)
+any_refused i k (Ok tree) is fine = tt
+any_refused i k (Err (Refused refusal)) is fine = (exact_reading_lem i fine).1 (Refused refusal) (is (λ same. cc))
+any_refused i k (Err NoMemory) is fine = tt
 
 -- ---- nothing goes on behind a whole expression
 

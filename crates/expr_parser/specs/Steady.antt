@@ -1,5 +1,5 @@
 -- What reading gives where tokens are left, told by those tokens alone.
-use Rattle.std.specs.Prelude.{◌≡◌, ◌≢◌, ◌⊎◌, ℕ, ◌+◌, ◌-◌, ◌==◌, ◌≤◌, Bool, false, not, ◌&&◌, List, [], ◌∷◌, ◌++◌, length, drop, Result, Ok, Err, codes}
+use Rattle.std.specs.Prelude.{◌≡◌, ◌≢◌, ◌⊎◌, ℕ, ◌+◌, ◌==◌, Bool, false, not, ◌&&◌, List, [], ◌∷◌, ◌++◌, length, drop, codes}
 use Rattle.sv_base.specs.declared.refusal.Refusal.{Refusal}
 use Rattle.sv_lexer.specs.declared.token.Token.{Token}
 use Rattle.sv_ast.specs.declared.expression.Expr.{Expr}
@@ -10,7 +10,6 @@ use Rattle.expr_parser.specs.Grammar.{Phrase, IsPhrase, tokens_of, tree_of, Read
 use Rattle.expr_parser.specs.Nesting.{nesting, greatest_nesting}
 use Rattle.expr_parser.specs.Outcome.{grammar_tokens, BeginsWith, NoneGoesOn, EndsInGrammar, IsShallow, last_place, refusal_at, nesting_refusal}
 use Rattle.expr_parser.specs.Input.{Input}
-use Rattle.expr_parser.specs.Reading.{any}
 
 -- a token that goes on with no whole expression
 unfoldable pub ends_expression : Token → Bool
@@ -62,19 +61,11 @@ abbrev pub RefusesAt : Input → ParseFault → Type 0
 RefusesAt i (Refused r) = StopsAt i r ⊎ TooDeepAt i r
 RefusesAt i NoMemory = ⊥
 
+-- a fault is that refusal; memory may run out at any tokens
+abbrev pub IsFaultAt : Input → ParseFault → Type 0
+IsFaultAt i (Refused r) = StopsAt i r ⊎ TooDeepAt i r
+IsFaultAt i NoMemory = Unit {0}
+
 -- what is left from this place on, at this open nesting
 abbrev pub input_at : List Token → ℕ → ℕ → Input
 input_at tokens at depth = record { rest = drop at tokens; nested = depth; last = last_place tokens }
-
--- this tree is read from here, up to this place
-pub record Leaves (tokens : List Token) (i : Input) (tree : Expr) (n : ℕ) : Type 0 where
-  pub there : Input
-  pub is : any i ≡ Ok (tree, there)
-  pub place : n ≡ length tokens - length there.rest
-  pub rest_is : drop n tokens ≡ there.rest
-  pub within : n ≤ length tokens
-
--- what is read and what is refused depends on the tokens alone, unless memory runs out
-abbrev pub Follows : List Token → ℕ → ℕ → Result (Expr × ℕ) ParseFault → Type 0
-Follows tokens at depth (Ok r) = Leaves tokens (input_at tokens at depth) r.0 r.1
-Follows tokens at depth (Err e) = e ≢ NoMemory → any (input_at tokens at depth) ≡ Err e

@@ -1,8 +1,11 @@
 //! The rules that hold expressions take the reader of those as a parameter, so that each is proved by itself.
 
+ghost use Rattle.std.specs.Prelude.{◌≤◌, IfOk, IfErr};
 ghost use Rattle.expr_parser.specs.Input.{Gives};
 ghost use Rattle.expr_parser.specs.Reading as spec;
 ghost use Rattle.expr_parser.specs.Nests.{Nests};
+ghost use Rattle.expr_parser.specs.Nesting.{greatest_nesting};
+ghost use Rattle.expr_parser.specs.Steady.{ReadsFrom, IsFaultAt};
 
 use crate::cursor::Cursor;
 use crate::fault::ParseFault;
@@ -62,9 +65,14 @@ pub fn expr(
     .level(tokens, least)
 }
 
-/// Reads a whole expression, the longest that stands at the cursor, as `parse_expr` does.
+/// Reads a whole expression, the longest that stands at the cursor. Where the longest run of tokens with which an expression
+/// begins is none, the token behind it is refused, or the end of the list; a token of the run at which the open nesting is 257
+/// is refused before. What is read or refused depends on the tokens alone, unless memory runs out.
 pub fn any(alloc: Global, tokens: &mut Cursor<'_>) -> Result<Expr, ParseFault>
-    ensures { Gives (spec.any tokens.old) result tokens.new }
+    ensures gives { Gives (spec.any tokens.old) result tokens.new }
+    ensures read { tokens.old.nested ≤ greatest_nesting
+        → IfOk result (λ tree. ReadsFrom tokens.old tree tokens.new) }
+    ensures refused { tokens.old.nested ≤ greatest_nesting → IfErr result (IsFaultAt tokens.old) }
 {
     Grammar {
         alloc,

@@ -1,7 +1,6 @@
 ghost use Rattle.std.specs.Prelude.{◌≤◌, length, IfOk, IfErr};
 ghost use Rattle.expr_parser.specs.Outcome.{IsRead, IsFaultOf};
 ghost use Rattle.expr_parser.specs.Spelled.{AreSpelled, IsWritten};
-ghost use Rattle.expr_parser.specs.Steady.{Follows};
 
 use crate::cursor::{Cursor, last_place};
 use crate::fault::ParseFault;
@@ -25,7 +24,6 @@ pub fn parse_expr(
     ensures read { IfOk result (λ r. IsRead tokens.now.items at depth r.0 r.1) }
     ensures written { IfOk result (λ r. AreSpelled tokens.now.items → IsWritten r.0) }
     ensures refused { IfErr result (IsFaultOf tokens.now.items at depth) }
-    ensures steady { Follows tokens.now.items at depth result }
 {
     let last = last_place(tokens.as_slice());
     let mut cursor = Cursor::new(&tokens.as_slice()[at..], depth, last);
