@@ -3,10 +3,12 @@ use Rattle.std.specs.Prelude.{List, [], ◌∷◌, Option, codes}
 use Rattle.sv_ast.specs.declared.statement.Loop.{Loop}
 use Rattle.sv_ast.specs.declared.statement.CaseItem.{CaseItem}
 use Rattle.sv_ast.specs.declared.statement.Stmt.{Stmt}
+use Rattle.sv_ast.specs.declared.statement.Stmt.TheVariants as stmt
 use Rattle.expr_parser.specs.Input.{Parser, ◌>>=◌, ◌>>◌, pure}
+use Rattle.expr_parser.specs.Reading.{any}
 use Rattle.module_parser.specs.Words.{is_keyword, is_no_keyword}
 use Rattle.module_parser.specs.Input.{many, opened}
-use Rattle.module_parser.specs.Reading.{word, loop, maybe, case_item}
+use Rattle.module_parser.specs.Reading.{word, loop, maybe, parenthesised, case_item}
 
 -- the header of a loop that declares its variable
 abbrev pub counted : Parser Loop
@@ -22,3 +24,11 @@ case_items statement = do
   first ← case_item statement []
   rest ← many (is_no_keyword (codes "endcase")) (λ found. case_item statement (first ∷ found))
   pure (first ∷ rest)
+
+-- a `case` before its `endcase`
+abbrev pub choice_front : Parser Stmt → Parser Stmt
+choice_front statement = opened (is_keyword (codes "case")) (λ opens. do
+  test ← parenthesised any
+  first ← case_item statement []
+  rest ← many (is_no_keyword (codes "endcase")) (λ found. case_item statement (first ∷ found))
+  pure (stmt.Case opens.place test (first ∷ rest)))

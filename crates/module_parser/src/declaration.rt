@@ -7,12 +7,14 @@ ghost use Rattle.module_parser.specs.Input.{take_one};
 ghost use Rattle.module_parser.specs.Reading as spec;
 
 use crate::cursor::Cursor;
+use crate::kept::kept;
 use crate::list::listed;
 use crate::shape::{port_shape, variable_shape};
 use crate::target::target;
 use expr_parser::ParseFault;
 use std::alloc::Global;
 use sv_ast::{Decl, Expr, Id, Item, Pair};
+use sv_base::Sequence;
 
 /// The words that begin a parameter.
 pub const PARAMETER_WORDS: [&str; 2] = ["parameter", "localparam"];
@@ -65,9 +67,15 @@ fn pair(alloc: Global, tokens: &mut Cursor<'_>) -> Result<Pair, ParseFault>
     ensures { Gives (spec.pair tokens.old) result tokens.new }
 {
     let target = target(alloc, tokens)?;
-    tokens.expect(alloc, "=")?;
-    let value = tokens.expression(alloc)?;
+    let (target, ()) = kept(target, tokens.expect(alloc, "="))?;
+    let (target, value) = kept(target, tokens.expression(alloc))?;
     Ok(Pair { target, value })
+}
+
+fn parameter_list(alloc: Global, tokens: &mut Cursor<'_>) -> Result<Sequence<Decl>, ParseFault>
+    ensures { Gives (spec.listed spec.parameter tokens.old) result tokens.new }
+{
+    listed(alloc, tokens, parameter)
 }
 
 #[tactic(auto, unfolding(crate::specs::Reading::parameters))]
@@ -76,9 +84,15 @@ pub fn parameters(alloc: Global, tokens: &mut Cursor<'_>) -> Result<Item, ParseF
 {
     let keyword = tokens.take_word_of(alloc, &PARAMETER_WORDS)?;
     let shape = variable_shape(alloc, tokens)?;
-    let found = listed(alloc, tokens, parameter)?;
-    tokens.expect(alloc, ";")?;
+    let all = kept(shape, parameter_list(alloc, tokens))?;
+    let ((shape, found), ()) = kept(all, tokens.expect(alloc, ";"))?;
     Ok(Item::Param(keyword, shape, found))
+}
+
+fn declared_list(alloc: Global, tokens: &mut Cursor<'_>) -> Result<Sequence<Decl>, ParseFault>
+    ensures { Gives (spec.listed spec.declared tokens.old) result tokens.new }
+{
+    listed(alloc, tokens, declared)
 }
 
 #[tactic(auto, unfolding(crate::specs::Reading::declaration))]
@@ -86,8 +100,8 @@ pub fn declaration(alloc: Global, tokens: &mut Cursor<'_>) -> Result<Item, Parse
     ensures { Gives (spec.declaration tokens.old) result tokens.new }
 {
     let shape = port_shape(alloc, tokens)?;
-    let found = listed(alloc, tokens, declared)?;
-    tokens.expect(alloc, ";")?;
+    let all = kept(shape, declared_list(alloc, tokens))?;
+    let ((shape, found), ()) = kept(all, tokens.expect(alloc, ";"))?;
     Ok(Item::Declare(shape, found))
 }
 

@@ -2,25 +2,26 @@
 
 ghost use Rattle.std.specs.Prelude.{◌≡◌, [], ◌∷◌, IfOk};
 ghost use Rattle.expr_parser.specs.Input.{Gives};
-ghost use Rattle.expr_parser.specs.Reading.{any};
 ghost use Rattle.module_parser.specs.Input.{many};
 ghost use Rattle.module_parser.specs.Nests.{Nests};
 ghost use Rattle.module_parser.specs.Processes.{process_or};
 ghost use Rattle.module_parser.specs.Reading as spec;
 ghost use Rattle.module_parser.specs.Words.{is_no_keyword};
 
-use crate::bracket::{block_of, parenthesised};
+use crate::bracket::block_of;
 use crate::cursor::Cursor;
 use crate::declaration::{PARAMETER_WORDS, assignments, declaration, genvars, parameters};
 use crate::instance::instances;
+use crate::kept::kept;
 use crate::list::up_to;
 use crate::process::{always, clocked, combinational};
 use crate::repetition::loop_header;
+use crate::statement::test;
 use crate::target::LEVELS;
 use expr_parser::ParseFault;
 use sqlite_items::Items;
 use std::alloc::{AllocError, Global};
-use sv_ast::{Block, Expr, Item, Loop};
+use sv_ast::{Block, Item, Loop};
 
 /// The words that begin a declaration.
 const DECLARING_WORDS: [&str; 6] = ["wire", "logic", "reg", "bit", "int", "integer"];
@@ -31,12 +32,6 @@ fn single(alloc: Global, item: Item) -> Result<Items<Item>, AllocError>
     let mut items = Items::new(alloc);
     items.push(item)?;
     Ok(items)
-}
-
-fn parenthesised_test(alloc: Global, tokens: &mut Cursor<'_>) -> Result<Expr, ParseFault>
-    ensures { Gives (spec.parenthesised any tokens.old) result tokens.new }
-{
-    parenthesised(alloc, tokens, |alloc, tokens| tokens.expression(alloc))
 }
 
 /// The rules that hold items take the reader of those as a parameter, so that each is proved by itself.
@@ -131,7 +126,7 @@ impl<F: Fn(Global, &mut Cursor<'_>, usize) -> Result<Item, ParseFault>> Generate
         tokens.open(self.alloc, "(")?;
         let head = self.loop_head(tokens)?;
         tokens.leave(outer);
-        tokens.expect(self.alloc, ")")?;
+        let (head, ()) = kept(head, tokens.expect(self.alloc, ")"))?;
         Ok(head)
     }
 
@@ -141,11 +136,11 @@ impl<F: Fn(Global, &mut Cursor<'_>, usize) -> Result<Item, ParseFault>> Generate
         ensures { Gives (spec.generate_loop (spec.item_to self.now.depth) tokens.old) result tokens.new }
     {
         let outer = tokens.enter();
-        let opens = tokens.open_word(self.alloc, "for")?;
-        let (declares, head) = self.parenthesised_head(tokens)?;
-        let body = self.generate_block(tokens)?;
+        let place = tokens.open_word(self.alloc, "for")?.place;
+        let head = self.parenthesised_head(tokens)?;
+        let ((declares, head), body) = kept(head, self.generate_block(tokens))?;
         tokens.leave(outer);
-        Ok(Item::For(opens.place, declares, head, body))
+        Ok(Item::For(place, declares, head, body))
     }
 
     fn otherwise(&self, tokens: &mut Cursor<'_>) -> Result<Option<Block>, ParseFault>
@@ -168,12 +163,12 @@ impl<F: Fn(Global, &mut Cursor<'_>, usize) -> Result<Item, ParseFault>> Generate
         ensures { Gives (spec.generate_conditional (spec.item_to self.now.depth) tokens.old) result tokens.new }
     {
         let outer = tokens.enter();
-        let opens = tokens.open_word(self.alloc, "if")?;
-        let test = parenthesised_test(self.alloc, tokens)?;
-        let first = self.generate_block(tokens)?;
+        let place = tokens.open_word(self.alloc, "if")?.place;
+        let test = test(self.alloc, tokens)?;
+        let front = kept(test, self.generate_block(tokens))?;
         tokens.leave(outer);
-        let second = self.otherwise(tokens)?;
-        Ok(Item::If(opens.place, test, first, second))
+        let ((test, first), second) = kept(front, self.otherwise(tokens))?;
+        Ok(Item::If(place, test, first, second))
     }
 
     #[tactic(auto, unfolding(crate::specs::Reading::item_level))]

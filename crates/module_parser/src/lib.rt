@@ -7,6 +7,7 @@ mod declaration;
 mod header;
 mod instance;
 mod item;
+mod kept;
 mod law;
 mod list;
 mod module;
@@ -18,6 +19,6 @@ mod statement;
 mod target;
 mod words;
 
-pub use header::{entry_keyword, entry_shape, port_direction, port_shape};
+pub use header::{Entry, EntryKind, Port, entries_of, ports_of};
 pub use law::{not_both, one_file, one_reading, one_refusal};
 pub use parser::parse_file;

@@ -12,6 +12,7 @@ use crate::bracket::{end_label, parenthesised};
 use crate::cursor::Cursor;
 use crate::declaration::{PARAMETER_WORDS, value};
 use crate::item::item_of;
+use crate::kept::kept;
 use crate::list::{listed, up_to};
 use crate::shape::{port_shape, variable_shape};
 use expr_parser::{ParseFault, is_mark};
@@ -38,8 +39,8 @@ fn header_parameter(alloc: Global, tokens: &mut Cursor<'_>) -> Result<Param, Par
 {
     let keyword = maybe_keyword(alloc, tokens)?;
     let shape = variable_shape(alloc, tokens)?;
-    let name = tokens.take_identifier(alloc)?;
-    let value = value(alloc, tokens)?;
+    let (shape, name) = kept(shape, tokens.take_identifier(alloc))?;
+    let (shape, value) = kept(shape, value(alloc, tokens))?;
     Ok(Param {
         keyword,
         shape,
@@ -81,7 +82,7 @@ fn whole_port(alloc: Global, tokens: &mut Cursor<'_>) -> Result<PortDecl, ParseF
 {
     let direction = Some(tokens.take_word_of(alloc, &DIRECTIONS)?);
     let shape = port_shape(alloc, tokens)?;
-    let name = tokens.take_identifier(alloc)?;
+    let (shape, name) = kept(shape, tokens.take_identifier(alloc))?;
     Ok(PortDecl {
         direction,
         shape,

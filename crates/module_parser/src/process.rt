@@ -7,6 +7,7 @@ ghost use Rattle.module_parser.specs.Reading as spec;
 
 use crate::bracket::parenthesised;
 use crate::cursor::Cursor;
+use crate::kept::kept;
 use crate::statement::statement;
 use expr_parser::ParseFault;
 use std::alloc::{AllocError, Global};
@@ -19,9 +20,9 @@ const EDGES: [&str; 2] = ["posedge", "negedge"];
 pub fn combinational(alloc: Global, tokens: &mut Cursor<'_>) -> Result<Item, ParseFault>
     ensures { Gives (spec.combinational tokens.old) result tokens.new }
 {
-    let keyword = tokens.take_word(alloc, "always_comb")?;
+    let place = tokens.take_word(alloc, "always_comb")?.place;
     let body = statement(alloc, tokens)?;
-    Ok(Item::Comb(keyword.place, body))
+    Ok(Item::Comb(place, body))
 }
 
 #[tactic(auto, unfolding(crate::specs::Reading::edge))]
@@ -51,11 +52,11 @@ fn single(alloc: Global, edge: Edge) -> Result<Sequence<Edge>, AllocError>
 pub fn clocked(alloc: Global, tokens: &mut Cursor<'_>) -> Result<Item, ParseFault>
     ensures { Gives (spec.clocked tokens.old) result tokens.new }
 {
-    let keyword = tokens.take_word(alloc, "always_ff")?;
+    let place = tokens.take_word(alloc, "always_ff")?.place;
     tokens.expect(alloc, "@")?;
-    let found = parenthesised_edge(alloc, tokens)?;
+    let edges = single(alloc, parenthesised_edge(alloc, tokens)?)?;
     let body = statement(alloc, tokens)?;
-    Ok(Item::Clocked(keyword.place, single(alloc, found)?, body))
+    Ok(Item::Clocked(place, edges, body))
 }
 
 /// `*` or an edge.
@@ -99,7 +100,10 @@ fn process_of(
 {
     match control {
         None => Ok(Item::Comb(keyword.place, body)),
-        Some(edge) => Ok(Item::Clocked(keyword.place, single(alloc, edge)?, body)),
+        Some(edge) => {
+            let (body, edges) = kept(body, single(alloc, edge))?;
+            Ok(Item::Clocked(keyword.place, edges, body))
+        }
     }
 }
 
@@ -110,6 +114,6 @@ pub fn always(alloc: Global, tokens: &mut Cursor<'_>) -> Result<Item, ParseFault
     let keyword = tokens.take_word(alloc, "always")?;
     tokens.expect(alloc, "@")?;
     let found = control(alloc, tokens)?;
-    let body = statement(alloc, tokens)?;
+    let (found, body) = kept(found, statement(alloc, tokens))?;
     Ok(process_of(alloc, keyword, found, body)?)
 }

@@ -4,6 +4,7 @@ ghost use Rattle.expr_parser.specs.Input.{Gives};
 ghost use Rattle.module_parser.specs.Reading as spec;
 
 use crate::cursor::Cursor;
+use crate::kept::kept;
 use expr_parser::ParseFault;
 use std::alloc::Global;
 use sv_ast::{Id, Loop, Step};
@@ -35,10 +36,10 @@ pub fn loop_header(alloc: Global, tokens: &mut Cursor<'_>) -> Result<Loop, Parse
     let name = tokens.take_identifier(alloc)?;
     tokens.expect(alloc, "=")?;
     let first = tokens.expression(alloc)?;
-    tokens.expect(alloc, ";")?;
-    let test = tokens.expression(alloc)?;
-    tokens.expect(alloc, ";")?;
-    let step = step(alloc, tokens, &name)?;
+    let (first, ()) = kept(first, tokens.expect(alloc, ";"))?;
+    let front = kept(first, tokens.expression(alloc))?;
+    let (front, ()) = kept(front, tokens.expect(alloc, ";"))?;
+    let ((first, test), step) = kept(front, step(alloc, tokens, &name))?;
     Ok(Loop {
         name,
         first,

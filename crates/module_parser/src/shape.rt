@@ -9,6 +9,7 @@ ghost use Rattle.module_parser.specs.Reading as spec;
 ghost use Rattle.module_parser.specs.Words.{is_keyword};
 
 use crate::cursor::Cursor;
+use crate::kept::kept;
 use expr_parser::ParseFault;
 use std::alloc::{AllocError, Global};
 use sv_ast::{Id, Range, Shape};
@@ -21,10 +22,10 @@ fn range(alloc: Global, tokens: &mut Cursor<'_>) -> Result<Range, ParseFault>
     let outer = tokens.enter();
     tokens.open(alloc, "[")?;
     let high = tokens.expression(alloc)?;
-    tokens.expect(alloc, ":")?;
-    let low = tokens.expression(alloc)?;
+    let (high, ()) = kept(high, tokens.expect(alloc, ":"))?;
+    let bounds = kept(high, tokens.expression(alloc))?;
     tokens.leave(outer);
-    tokens.expect(alloc, "]")?;
+    let ((high, low), ()) = kept(bounds, tokens.expect(alloc, "]"))?;
     Ok(Range { high, low })
 }
 

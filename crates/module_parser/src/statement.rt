@@ -10,6 +10,7 @@ ghost use Rattle.module_parser.specs.Nests.{Nests};
 ghost use Rattle.module_parser.specs.Reading as spec;
 
 use crate::cursor::Cursor;
+use crate::kept::kept;
 use crate::target::{self, LEVELS};
 use crate::{bracket, list, repetition};
 use expr_parser::ParseFault;
@@ -80,6 +81,13 @@ impl<F: Fn(Global, &mut Cursor<'_>, usize) -> Result<Stmt, ParseFault>> Statemen
         (self.statement)(alloc, tokens, self.depth)
     }
 
+    fn boxed(&self, tokens: &mut Cursor<'_>) -> Result<Boxed<Stmt>, ParseFault>
+        requires { Nests spec.statement_to self.now.depth (F.pre self.now.statement) (F.post self.now.statement) }
+        ensures { Gives (spec.statement_to self.now.depth tokens.old) result tokens.new }
+    {
+        Ok(Boxed::new(self.alloc, self.inner(self.alloc, tokens)?)?)
+    }
+
     #[tactic(auto, unfolding(crate::specs::Reading::block))]
     fn block(&self, tokens: &mut Cursor<'_>) -> Result<Stmt, ParseFault>
         requires { Nests spec.statement_to self.now.depth (F.pre self.now.statement) (F.post self.now.statement) }
@@ -102,7 +110,7 @@ impl<F: Fn(Global, &mut Cursor<'_>, usize) -> Result<Stmt, ParseFault>> Statemen
         }
         let outer = tokens.enter();
         tokens.open_word(self.alloc, "else")?;
-        let second = Boxed::new(self.alloc, self.inner(self.alloc, tokens)?)?;
+        let second = self.boxed(tokens)?;
         tokens.leave(outer);
         Ok(Some(second))
     }
@@ -113,12 +121,12 @@ impl<F: Fn(Global, &mut Cursor<'_>, usize) -> Result<Stmt, ParseFault>> Statemen
         ensures { Gives (spec.conditional (spec.statement_to self.now.depth) tokens.old) result tokens.new }
     {
         let outer = tokens.enter();
-        let opens = tokens.open_word(self.alloc, "if")?;
+        let place = tokens.open_word(self.alloc, "if")?.place;
         let test = test(self.alloc, tokens)?;
-        let first = Boxed::new(self.alloc, self.inner(self.alloc, tokens)?)?;
+        let front = kept(test, self.boxed(tokens))?;
         tokens.leave(outer);
-        let second = self.otherwise(tokens)?;
-        Ok(Stmt::If(opens.place, test, first, second))
+        let ((test, first), second) = kept(front, self.otherwise(tokens))?;
+        Ok(Stmt::If(place, test, first, second))
     }
 
     #[tactic(auto, unfolding(crate::specs::Reading::default_item))]
@@ -176,18 +184,27 @@ impl<F: Fn(Global, &mut Cursor<'_>, usize) -> Result<Stmt, ParseFault>> Statemen
         Ok(found)
     }
 
+    /// A `case` before its `endcase`.
+    fn choice_front(&self, tokens: &mut Cursor<'_>) -> Result<Stmt, ParseFault>
+        requires { Nests spec.statement_to self.now.depth (F.pre self.now.statement) (F.post self.now.statement) }
+        ensures { Gives (parts.choice_front (spec.statement_to self.now.depth) tokens.old) result tokens.new }
+    {
+        let outer = tokens.enter();
+        let place = tokens.open_word(self.alloc, "case")?.place;
+        let test = test(self.alloc, tokens)?;
+        let (test, items) = kept(test, self.case_items(tokens))?;
+        tokens.leave(outer);
+        Ok(Stmt::Case(place, test, items))
+    }
+
     #[tactic(auto, unfolding(crate::specs::Reading::choice))]
     fn choice(&self, tokens: &mut Cursor<'_>) -> Result<Stmt, ParseFault>
         requires { Nests spec.statement_to self.now.depth (F.pre self.now.statement) (F.post self.now.statement) }
         ensures { Gives (spec.choice (spec.statement_to self.now.depth) tokens.old) result tokens.new }
     {
-        let outer = tokens.enter();
-        let opens = tokens.open_word(self.alloc, "case")?;
-        let test = test(self.alloc, tokens)?;
-        let items = self.case_items(tokens)?;
-        tokens.leave(outer);
-        tokens.expect_word(self.alloc, "endcase")?;
-        Ok(Stmt::Case(opens.place, test, items))
+        let choice = self.choice_front(tokens)?;
+        let (choice, ()) = kept(choice, tokens.expect_word(self.alloc, "endcase"))?;
+        Ok(choice)
     }
 
     #[tactic(auto, unfolding(crate::specs::Reading::repetition))]
@@ -196,11 +213,11 @@ impl<F: Fn(Global, &mut Cursor<'_>, usize) -> Result<Stmt, ParseFault>> Statemen
         ensures { Gives (spec.repetition (spec.statement_to self.now.depth) tokens.old) result tokens.new }
     {
         let outer = tokens.enter();
-        let opens = tokens.open_word(self.alloc, "for")?;
+        let place = tokens.open_word(self.alloc, "for")?.place;
         let head = bracket::parenthesised(self.alloc, tokens, counted)?;
-        let body = Boxed::new(self.alloc, self.inner(self.alloc, tokens)?)?;
+        let (head, body) = kept(head, self.boxed(tokens))?;
         tokens.leave(outer);
-        Ok(Stmt::For(opens.place, head, body))
+        Ok(Stmt::For(place, head, body))
     }
 
     #[tactic(auto, unfolding(crate::specs::Reading::assignment))]
@@ -208,9 +225,9 @@ impl<F: Fn(Global, &mut Cursor<'_>, usize) -> Result<Stmt, ParseFault>> Statemen
         ensures { Gives (spec.assignment (spec.statement_to self.now.depth) tokens.old) result tokens.new }
     {
         let written = target::target(self.alloc, tokens)?;
-        let sign = tokens.take_sign_of(self.alloc, &["=", "<="])?;
-        let value = tokens.expression(self.alloc)?;
-        tokens.expect(self.alloc, ";")?;
+        let (written, sign) = kept(written, tokens.take_sign_of(self.alloc, &["=", "<="]))?;
+        let front = kept((written, sign), tokens.expression(self.alloc))?;
+        let (((written, sign), value), ()) = kept(front, tokens.expect(self.alloc, ";"))?;
         Ok(Stmt::Assign(written, sign, value))
     }
 

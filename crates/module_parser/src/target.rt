@@ -1,10 +1,12 @@
 //! Targets of assignments (IEEE 1800-2017, 10.4, 11.4.12, 11.5.1).
 
 ghost use Rattle.expr_parser.specs.Input.{Gives};
+ghost use Rattle.expr_parser.specs.Reading.{any};
 ghost use Rattle.module_parser.specs.Nests.{Nests};
 ghost use Rattle.module_parser.specs.Reading as spec;
 
 use crate::cursor::Cursor;
+use crate::kept::kept;
 use crate::list;
 use expr_parser::ParseFault;
 use sqlite_items::{Boxed, Items};
@@ -14,6 +16,12 @@ use sv_ast::{Expr, Id, Lval, Sel};
 /// How many targets, statements or items stand inside one another at most: each has a token before it that counts as
 /// nesting, and 256 of those are accepted.
 pub const LEVELS: usize = 257;
+
+fn boxed_expression(alloc: Global, tokens: &mut Cursor<'_>) -> Result<Boxed<Expr>, ParseFault>
+    ensures { Gives (any tokens.old) result tokens.new }
+{
+    Ok(Boxed::new(alloc, tokens.expression(alloc)?)?)
+}
 
 fn select_from(
     alloc: Global,
@@ -26,15 +34,15 @@ fn select_from(
     let first = Boxed::new(alloc, first)?;
     if tokens.sees(":") {
         tokens.expect(alloc, ":")?;
-        let second = Boxed::new(alloc, tokens.expression(alloc)?)?;
+        let second = boxed_expression(alloc, tokens)?;
         Ok(Sel::Part(opens.place, first, second))
     } else if tokens.sees("+:") {
         tokens.expect(alloc, "+:")?;
-        let second = Boxed::new(alloc, tokens.expression(alloc)?)?;
+        let second = boxed_expression(alloc, tokens)?;
         Ok(Sel::Up(opens.place, first, second))
     } else if tokens.sees("-:") {
         tokens.expect(alloc, "-:")?;
-        let second = Boxed::new(alloc, tokens.expression(alloc)?)?;
+        let second = boxed_expression(alloc, tokens)?;
         Ok(Sel::Down(opens.place, first, second))
     } else {
         Ok(Sel::Bit(opens.place, first))
@@ -50,7 +58,7 @@ fn select(alloc: Global, tokens: &mut Cursor<'_>) -> Result<Sel, ParseFault>
     let first = tokens.expression(alloc)?;
     let found = select_from(alloc, tokens, &opens, first)?;
     tokens.leave(outer);
-    tokens.expect(alloc, "]")?;
+    let (found, ()) = kept(found, tokens.expect(alloc, "]"))?;
     Ok(found)
 }
 
@@ -96,7 +104,7 @@ impl<F: Fn(Global, &mut Cursor<'_>, usize) -> Result<Lval, ParseFault>> Targets<
         ensures { Gives (spec.target_list (spec.target_to self.now.depth) tokens.old) result tokens.new }
     {
         let outer = tokens.enter();
-        let opens = tokens.open(self.alloc, "{")?;
+        let place = tokens.open(self.alloc, "{")?.place;
         let found = list::listed(
             self.alloc,
             tokens,
@@ -104,7 +112,7 @@ impl<F: Fn(Global, &mut Cursor<'_>, usize) -> Result<Lval, ParseFault>> Targets<
         )?;
         tokens.leave(outer);
         tokens.expect(self.alloc, "}")?;
-        Ok(Lval::List(opens.place, Items::from_vec(found.into_vec())))
+        Ok(Lval::List(place, Items::from_vec(found.into_vec())))
     }
 
     #[tactic(auto, unfolding(crate::specs::Reading::target_level))]

@@ -1,5 +1,5 @@
 use expr_parser::ParseFault;
-use module_parser::{entry_keyword, entry_shape, parse_file, port_direction, port_shape};
+use module_parser::{EntryKind, entries_of, parse_file, ports_of};
 use std::alloc::{AllocError, Global};
 use std::process::Abort;
 use std::test::Fail;
@@ -3091,7 +3091,7 @@ const HEADERS: [(&str, &str); 5] = [
     ),
     (
         "module t #(A = 1, signed B = 2, C = 3, parameter D = 4, int E = 5, F = 6, [1:0] G = 7, H = 8); endmodule",
-        "A,signed B,signed C,parameter D,parameter int E,parameter int F,parameter [1:0] G,parameter [1:0] H,|",
+        "parameter A,parameter signed B,parameter signed C,parameter D,parameter int E,parameter int F,parameter [1:0] G,parameter [1:0] H,|",
     ),
     (
         "module t #(localparam logic signed [3:0] A = 1, B = 2, unsigned C = 3, D = 4, parameter E = 5, F = 6); endmodule",
@@ -3107,17 +3107,19 @@ const HEADERS: [(&str, &str); 5] = [
     ),
 ];
 
+fn kind_word(kind: EntryKind) -> &'static str {
+    match kind {
+        EntryKind::Parameter => "parameter ",
+        EntryKind::Localparam => "localparam ",
+    }
+}
+
 /// What the entries have.
 fn show_taken_entries(out: &mut Out, entries: &[Param]) -> Result<(), AllocError> {
-    let mut keyword = None;
-    let mut shape = None;
-    for entry in entries {
-        keyword = entry_keyword(keyword, entry);
-        let own = entry_shape(shape, entry);
-        shape = Some(own);
-        put_word(out, keyword)?;
-        show_shape(out, own)?;
-        put_id(out, &entry.name)?;
+    for entry in entries_of(out.alloc, entries)? {
+        put(out, kind_word(entry.kind))?;
+        show_shape(out, entry.shape)?;
+        put_id(out, entry.name)?;
         put(out, ",")?;
     }
     put(out, "|")
@@ -3125,15 +3127,10 @@ fn show_taken_entries(out: &mut Out, entries: &[Param]) -> Result<(), AllocError
 
 /// What the ports have.
 fn show_taken_ports(out: &mut Out, ports: &[PortDecl]) -> Result<(), AllocError> {
-    let mut direction = None;
-    let mut shape = None;
-    for port in ports {
-        direction = port_direction(direction, port);
-        let own = port_shape(shape, port);
-        shape = Some(own);
-        put_word(out, direction)?;
-        show_shape(out, own)?;
-        put_id(out, &port.name)?;
+    for port in ports_of(out.alloc, ports)? {
+        put_word(out, port.direction)?;
+        show_shape(out, port.shape)?;
+        put_id(out, port.name)?;
         put(out, ",")?;
     }
     Ok(())

@@ -1,7 +1,5 @@
-use Rattle.std.proofs.Common.{◌≡◌, ◌∙◌, List, sym, ap, subst}
-use Rattle.sv_ast.specs.declared.module.Module.{Module}
-use Rattle.expr_parser.specs.Spelled.{AreSpelled}
-use Rattle.module_parser.specs.Outcome.{IsRead, AreWritten}
+use Rattle.std.proofs.Common.{◌∙◌, sym, ap, subst}
+use Rattle.module_parser.specs.Outcome.{IsRead}
 use Rattle.module_parser.specs.Reading.{file}
 use Rattle.module_parser.proofs.Expressions.{Exact}
 use Rattle.module_parser.proofs.Answer.{reads_right, refuses_right, written_right}

@@ -15,21 +15,21 @@ pub returns-in_err-first : goal.returns-in_err-first
 unfolding loop
 returns-in_err-first c = first_of (search rules, grind (arith, common_steps))
 
-pub returns-in_err-expect-2 : goal.returns-in_err-expect-2
+pub returns-in_err-first-2 : goal.returns-in_err-first-2
 unfolding loop
-returns-in_err-expect-2 c = first_of (search rules, grind (arith, common_steps))
+returns-in_err-first-2 c = first_of (search rules, grind (arith, common_steps))
 
-pub returns-in_err-test : goal.returns-in_err-test
+pub returns-in_err-front : goal.returns-in_err-front
 unfolding loop
-returns-in_err-test c = first_of (search rules, grind (arith, common_steps))
+returns-in_err-front c = first_of (search rules, grind (arith, common_steps))
 
-pub returns-in_err-expect-3 : goal.returns-in_err-expect-3
+pub returns-in_err-front-2 : goal.returns-in_err-front-2
 unfolding loop
-returns-in_err-expect-3 c = first_of (search rules, grind (arith, common_steps))
+returns-in_err-front-2 c = first_of (search rules, grind (arith, common_steps))
 
-pub returns-in_err-step : goal.returns-in_err-step
+pub returns-in_err-first-3 : goal.returns-in_err-first-3
 unfolding loop
-returns-in_err-step c = first_of (search rules, grind (arith, common_steps))
+returns-in_err-first-3 c = first_of (search rules, grind (arith, common_steps))
 
 pub returns : goal.returns
 unfolding loop
