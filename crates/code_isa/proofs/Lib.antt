@@ -1,0 +1,12 @@
+pub mod Reading
+pub mod Running
+pub mod Bits
+pub mod Members
+pub mod Counting
+pub mod Readers
+pub mod Marking
+pub mod Doing
+pub mod Active
+pub mod One
+pub mod Worked
+mod Shown

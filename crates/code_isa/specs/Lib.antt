@@ -1,0 +1,13 @@
+pub mod Faces
+pub mod Operands
+pub mod Slots
+pub mod Values
+pub mod Dependence
+pub mod Checks
+pub mod Faults
+pub mod Marks
+pub mod Uses
+pub mod Activity
+pub mod Tree
+pub mod Settled
+pub mod Traces
