@@ -1,6 +1,6 @@
 //! In which order the sealed children of a unit are settled.
 
-ghost use Rattle.std.specs.Prelude.{◌<◌};
+ghost use Rattle.std.specs.Prelude.{◌≡◌, ◌<◌};
 ghost use Rattle.model_stage.specs.Order.{Picks};
 
 /// An order of settling: asked for a sweep, counted from 1, and the number of children not yet visited in it, its
@@ -14,6 +14,7 @@ impl<F: Fn(u32, u32) -> u32 + Drop> Order<F> {
     /// The order of a closure that answers less than the number of children that are left.
     pub fn new(f: F) -> Order<F>
         requires { Picks (F.pre f) (F.post f) }
+        ensures { result.f ≡ f }
     {
         Order { f }
     }
