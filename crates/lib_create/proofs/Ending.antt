@@ -12,7 +12,7 @@ use Rattle.net_ir.specs.Trace.{IsTrace}
 use Rattle.lib_create.specs.declared.tree.Module.{Module}
 use Rattle.lib_create.specs.Command.{Sim, Misuse, meaning_of}
 use Rattle.lib_create.specs.Design.{design_of}
-use Rattle.stimulus_reader.specs.Stimulus.{script_of}
+use Rattle.stimulus_reader.specs.Stimulus.{stimulus_of}
 use Rattle.lib_create.specs.Outcome.{Verdict, SourceRefused, IsSource, IsRefused, step_limit, status_of, message_of, EndsWithStimulus, EndsWithSource, EndsWithWords, Ends, Outcome, IsOutcome}
 
 abbrev pub OneTrace : Type 0
@@ -29,7 +29,7 @@ pub record OneSource : Type 0 where
 
 pub stimulus_once : OneTrace → (spec : Spec) → IsPlain spec → (found : Option (List ℕ)) (v w : Verdict) (s t : List ℕ) → EndsWithStimulus spec found v s → EndsWithStimulus spec found w t → (v ≡ w) × (s ≡ t)
 stimulus_once traces spec plain None v w s t a b = (a.0 ∙ sym b.0, traces spec [] s t plain a.1 b.1)
-stimulus_once traces spec plain (Some bytes) v w s t a b = (a.0 ∙ sym b.0, traces spec (script_of (ports_of spec) step_limit bytes).steps s t plain a.1 b.1)
+stimulus_once traces spec plain (Some bytes) v w s t a b = (a.0 ∙ sym b.0, traces spec (stimulus_of (ports_of spec) step_limit bytes).steps s t plain a.1 b.1)
 
 pub source_once : OneTrace → OneSource → (files : Files) (sim : Sim) (found : Option (List ℕ)) (v w : Verdict) (s t : List ℕ) → EndsWithSource files sim found v s → EndsWithSource files sim found w t → (v ≡ w) × (s ≡ t)
 source_once traces one files sim None v w s t a b = (a.0 ∙ sym b.0, a.1 ∙ sym b.1)

@@ -9,9 +9,6 @@ pub mod Told
 pub mod Plain
 pub mod Elaborated
 pub mod Repeats
-pub mod Places
-pub mod BenchPorts
-pub mod PlainKnown
 pub mod PlayedOut
 pub mod Names
 pub mod Compiled

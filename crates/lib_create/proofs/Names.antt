@@ -17,7 +17,11 @@ use Rattle.lib_create.specs.declared.tree.Declaration.{Declaration}
 use Rattle.lib_create.specs.declared.tree.PortDeclaration.{PortDeclaration}
 use Rattle.lib_create.specs.declared.tree.Module.{Module}
 use Rattle.lib_create.specs.Design.{Naming, Declares, role_of, var_of, port_var, inner_var, item_declares, item_names, design_of, namings_of, is_declared, first_bad_name}
-use Rattle.lib_create.proofs.Places.{all_from}
+
+-- what follows for each item holds for the list
+all_from : {X : Type 0} (P Q : X → Type 0) → ((x : X) → P x → Q x) → (xs : List X) → AllByRecursion P xs → AllByRecursion Q xs
+all_from P Q step [] all = tt
+all_from P Q step (x ∷ xs) all = (step x all.0, all_from P Q step xs all.1)
 
 -- ---- the ports are those that the header declares
 

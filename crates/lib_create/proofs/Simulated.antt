@@ -1,7 +1,7 @@
 -- How a command ends, by what its source was found to be.
-use Rattle.std.proofs.Common.{◌≡◌, ℕ, List, [], Option, None, Some, Ok, refl, sym, ◌∙◌, ap, subst, inl, inr}
+use Rattle.std.proofs.Common.{◌≡◌, ◌⊎◌, ℕ, List, [], Option, None, Some, Result, Ok, Err, refl, sym, ◌∙◌, ap, subst, inl, inr}
 use Rattle.std.proofs.lemmas.Option.{IfSome_then}
-use Rattle.std.specs.Prelude.{IfSome}
+use Rattle.std.specs.Prelude.{IfSome, IfOk, OnErr}
 use Rattle.std.specs.FinMap.{get}
 use Rattle.io_edge.specs.File.{Files}
 use Rattle.io_edge.specs.Told.{Added, AddedFront, added_nothing}
@@ -13,16 +13,12 @@ use Rattle.lib_create.specs.Command.{Sim, meaning_of}
 use Rattle.lib_create.specs.Compiling.{IsCompiled}
 use Rattle.lib_create.specs.Design.{design_of}
 use Rattle.lib_create.specs.Outcome.{Verdict, SourceAbsent, SourceRefused, EndsWithStimulus, EndsWithSource, EndsWithWords, Ends}
-use Rattle.lib_create.proofs.Ending.{OneSource}
-use Rattle.lib_create.proofs.PlayedOut.{EndedFront}
+use Rattle.lib_create.specs.Answer.{HasCome, CutShort, NothingDue, InTrace}
 
 -- ---- the words are the command's
 
 with_source : (files : Files) (words : List (List ℕ)) (sim : Sim) (verdict : Verdict) (trace : List ℕ) → Ok sim ≡ meaning_of words → EndsWithSource files sim (get files sim.file) verdict trace → Ends files words verdict trace
 with_source files words sim verdict trace said ends = subst (λ meaning. EndsWithWords files meaning verdict trace) said ends
-
-of_source : (files : Files) (words : List (List ℕ)) (sim : Sim) (verdict : Verdict) (trace : List ℕ) → Ok sim ≡ meaning_of words → Ends files words verdict trace → EndsWithSource files sim (get files sim.file) verdict trace
-of_source files words sim verdict trace said ends = subst (λ meaning. EndsWithWords files meaning verdict trace) (sym said) ends
 
 -- ---- there is no design
 
@@ -52,26 +48,46 @@ refused_told content words sim found refusal before said compiled is =
 
 -- ---- there is a design
 
--- a run of the command is a run of the design
-design : (files : Files) (sim : Sim) (held : Option (List ℕ)) (spec : Spec) (verdict : Verdict) (trace : List ℕ) → OneSource → IsCompiled held sim.top (Design spec) → EndsWithSource files sim held verdict trace → EndsWithStimulus spec (get files sim.stimulus) verdict trace
-design files sim None spec verdict trace one is ends = absurd is
-design files sim (Some bytes) spec verdict trace one (m, source, same) (inl (other, found, ends)) =
-    subst (λ s. EndsWithStimulus s (get files sim.stimulus) verdict trace)
-    (ap design_of (one.trees sim.top bytes other m found source) ∙ sym same) ends
-design files sim (Some bytes) spec verdict trace one (m, source, same) (inr (refusal, is_refused, told, empty)) = absurd (one.apart sim.top bytes m refusal source is_refused)
-
 -- a run of the design is a run of the command
 source : (files : Files) (sim : Sim) (held : Option (List ℕ)) (spec : Spec) (verdict : Verdict) (trace : List ℕ) → IsCompiled held sim.top (Design spec) → EndsWithStimulus spec (get files sim.stimulus) verdict trace → EndsWithSource files sim held verdict trace
 source files sim None spec verdict trace is ends = absurd is
 source files sim (Some bytes) spec verdict trace (m, is, same) ends = inl (m, is, subst (λ s. EndsWithStimulus s (get files sim.stimulus) verdict trace) same ends)
 
-design_cut : (files : Files) (words : List (List ℕ)) (sim : Sim) (spec : Spec) (before after : Option (List ℕ)) → OneSource → Ok sim ≡ meaning_of words → IsCompiled (get files sim.file) sim.top (Design spec) → EndedFront spec (get files sim.stimulus) before after → (verdict : Verdict) (trace : List ℕ) → Ends files words verdict trace → AddedFront before after trace
-design_cut files words sim spec before after one said compiled cut verdict trace ends =
-    cut verdict trace
-    (design files sim (get files sim.file) spec verdict trace one compiled (of_source files words sim verdict trace said ends))
+-- where it was cut short, so was the command
+cut_source : (files : Files) (words : List (List ℕ)) (sim : Sim) (held : Option (List ℕ)) (spec : Spec) (before after : Option (List ℕ)) → meaning_of words ≡ Ok sim → get files sim.file ≡ held → IsCompiled held sim.top (Design spec) →
+    Added before after [] ⊎ HasCome spec (get files sim.stimulus) before after → CutShort files words before after
+cut_source files words sim None spec before after said there is cut = absurd is
+cut_source files words sim (Some bytes) spec before after said there is (inl nothing) = NothingDue nothing
+cut_source files words sim (Some bytes) spec before after said there (m, is, same) (inr come) =
+    InTrace sim said bytes there m is (subst (λ s. HasCome s (get files sim.stimulus) before after) same come)
 
-pub design_cut_told : (content later : Option Files) (words : List (List ℕ)) (sim : Sim) (found : Compiled) (spec : Spec) (before after : Option (List ℕ)) → OneSource → Ok sim ≡ meaning_of words → later ≡ content → IfSome content (λ files. IsCompiled (get files sim.file) sim.top found) → found ≡ Design spec → IfSome later (λ files. EndedFront spec (get files sim.stimulus) before after) → IfSome content (λ files. (verdict : Verdict) (trace : List ℕ) → Ends files words verdict trace → AddedFront before after trace)
-design_cut_told None later words sim found spec before after one said unchanged compiled is cut = tt
-design_cut_told (Some files) later words sim found spec before after one said unchanged compiled is cut =
-    design_cut files words sim spec before after one said (subst (IsCompiled (get files sim.file) sim.top) is compiled)
-    (subst (λ told. IfSome told (λ files. EndedFront spec (get files sim.stimulus) before after)) unchanged cut)
+pub design_cut_told : (content later : Option Files) (words : List (List ℕ)) (sim : Sim) (found : Compiled) (spec : Spec) (before after : Option (List ℕ)) → Ok sim ≡ meaning_of words → later ≡ content →
+    IfSome content (λ files. IsCompiled (get files sim.file) sim.top found) → found ≡ Design spec → IfSome later (λ files. Added before after [] ⊎ HasCome spec (get files sim.stimulus) before after) →
+    IfSome content (λ files. CutShort files words before after)
+design_cut_told None later words sim found spec before after said unchanged compiled is cut = tt
+design_cut_told (Some files) later words sim found spec before after said unchanged compiled is cut =
+    cut_source files words sim (get files sim.file) spec before after (sym said) refl (subst (IsCompiled (get files sim.file) sim.top) is compiled)
+    (subst (λ told. IfSome told (λ files. Added before after [] ⊎ HasCome spec (get files sim.stimulus) before after)) unchanged cut)
+
+-- where the stimulus was played to its end, the run of the command ended so
+pub design_ends_told : (content later : Option Files) (words : List (List ℕ)) (sim : Sim) (found : Compiled) (spec : Spec) (verdict : Verdict) (before after : Option (List ℕ)) → Ok sim ≡ meaning_of words → later ≡ content →
+    IfSome content (λ files. IsCompiled (get files sim.file) sim.top found) → found ≡ Design spec → IfSome later (λ files. (trace : List ℕ) × EndsWithStimulus spec (get files sim.stimulus) verdict trace × Added before after trace) →
+    IfSome content (λ files. (trace : List ℕ) × Ends files words verdict trace × Added before after trace)
+design_ends_told None later words sim found spec verdict before after said unchanged compiled is ends = tt
+design_ends_told (Some files) later words sim found spec verdict before after said unchanged compiled is ends =
+    let here = subst (λ told. IfSome told (λ files. (trace : List ℕ) × EndsWithStimulus spec (get files sim.stimulus) verdict trace × Added before after trace)) unchanged ends in
+    (here.0, with_source files words sim verdict here.0 said (source files sim (get files sim.file) spec verdict here.0 (subst (IsCompiled (get files sim.file) sim.top) is compiled) here.1), here.2)
+
+pub run_ends_told : {A E : Type 0} (seen : A → Verdict) (content later : Option Files) (words : List (List ℕ)) (sim : Sim) (found : Compiled) (spec : Spec) (result : Result A E) (before after : Option (List ℕ)) → Ok sim ≡ meaning_of words → later ≡ content →
+    IfSome content (λ files. IsCompiled (get files sim.file) sim.top found) → found ≡ Design spec →
+    IfOk result (λ verdict. IfSome later (λ files. (trace : List ℕ) × EndsWithStimulus spec (get files sim.stimulus) (seen verdict) trace × Added before after trace)) →
+    IfOk result (λ verdict. IfSome content (λ files. (trace : List ℕ) × Ends files words (seen verdict) trace × Added before after trace))
+run_ends_told seen content later words sim found spec (Ok verdict) before after said unchanged compiled is ends = design_ends_told content later words sim found spec (seen verdict) before after said unchanged compiled is ends
+run_ends_told seen content later words sim found spec (Err fault) before after said unchanged compiled is ends = tt
+
+pub run_cut_told : {A E : Type 0} (content later : Option Files) (words : List (List ℕ)) (sim : Sim) (found : Compiled) (spec : Spec) (result : Result A E) (before after : Option (List ℕ)) → Ok sim ≡ meaning_of words → later ≡ content →
+    IfSome content (λ files. IsCompiled (get files sim.file) sim.top found) → found ≡ Design spec →
+    OnErr result (IfSome later (λ files. Added before after [] ⊎ HasCome spec (get files sim.stimulus) before after)) →
+    OnErr result (IfSome content (λ files. CutShort files words before after))
+run_cut_told content later words sim found spec (Ok verdict) before after said unchanged compiled is cut = tt
+run_cut_told content later words sim found spec (Err fault) before after said unchanged compiled is cut = design_cut_told content later words sim found spec before after said unchanged compiled is cut

@@ -1,8 +1,18 @@
 -- What an answer of the program says of the bytes that it has written.
-use Rattle.std.specs.Prelude.{◌≡◌, ℕ, List, ◌++◌, [], ◌∷◌, codes, Option, ◌⊎◌}
+use Rattle.std.specs.Prelude.{◌≡◌, ℕ, List, ◌++◌, [], ◌∷◌, codes, Option, None, Some, Ok, unwrap_or}
+use Rattle.std.specs.FinMap.{get}
 use Rattle.io_edge.specs.File.{Files}
 use Rattle.io_edge.specs.Told.{Added, AddedFront}
-use Rattle.lib_create.specs.Outcome.{Outcome, IsOutcome}
+use Rattle.sv_base.specs.Steps.{Step}
+use Rattle.net_ir.specs.declared.design.Spec.{Spec}
+use Rattle.net_ir.specs.Face.{ports_of}
+use Rattle.net_ir.specs.Trace.{IsTrace}
+use Rattle.stimulus_reader.specs.Stimulus.{Stimulus, stimulus_of}
+use Rattle.session.specs.Playing.{behind_steps}
+use Rattle.lib_create.specs.declared.tree.Module.{Module}
+use Rattle.lib_create.specs.Command.{Sim, meaning_of}
+use Rattle.lib_create.specs.Design.{design_of}
+use Rattle.lib_create.specs.Outcome.{Outcome, IsOutcome, IsSource, step_limit}
 
 abbrev pub read_fault : List ℕ
 read_fault = codes "read fault" ++ 10 ∷ []
@@ -21,20 +31,45 @@ pub record Answered (files : Files) (words : List (List ℕ)) (status : ℕ) (ou
   pub out : Added out_before out_after outcome.out
   pub err : Added err_before err_after outcome.err
 
--- of each outcome, a front of the output was added
-abbrev pub CutShort : Files → List (List ℕ) → Option (List ℕ) → Option (List ℕ) → Type 0
-CutShort files words out_before out_after = (outcome : Outcome) → IsOutcome files words outcome → AddedFront out_before out_after outcome.out
+-- a design was played on the bytes of this stimulus, none where it isn't there: these steps were made, and of their trace a front was
+-- added
+pub record HasCome (spec : Spec) (found : Option (List ℕ)) (before after : Option (List ℕ)) : Type 0 where
+  pub made : List Step
+  pub later : Stimulus
+  pub first : stimulus_of (ports_of spec) step_limit (unwrap_or found []) ≡ behind_steps made later
+  pub due : List ℕ
+  pub trace : IsTrace spec made due
+  pub added : AddedFront before after due
 
--- of the message that was due a front was added: that of the outcome, that of a write to standard output or to the folder
--- which failed, that of a read which failed, or that of want of memory
-abbrev pub CutMessage : Files → List (List ℕ) → Type 0 → Type 0 → Option (List ℕ) → Option (List ℕ) → Type 0
-CutMessage files words write_failed read_failed before after =
-    (outcome : Outcome) → IsOutcome files words outcome →
-    (AddedFront before after outcome.err ⊎ (write_failed × AddedFront before after write_fault))
-    ⊎ ((read_failed × AddedFront before after read_fault) ⊎ AddedFront before after no_memory)
+-- where a run stood that was cut short: nothing was due yet on standard output and nothing was added, or its words and source are
+-- legal and it was playing
+pub data CutShort (files : Files) (words : List (List ℕ)) (before after : Option (List ℕ)) : Type 0 where
+  NothingDue : (added : Added before after []) → CutShort files words before after
+  InTrace : (sim : Sim) (said : meaning_of words ≡ Ok sim) (bytes : List ℕ) (there : get files sim.file ≡ Some bytes) (m : Module) (source : IsSource sim.top bytes m)
+      (come : HasCome (design_of m) (get files sim.stimulus) before after) → CutShort files words before after
 
--- each outcome was given, or memory ran out
-abbrev pub Completed : Files → List (List ℕ) → ℕ → Option (List ℕ) → Option (List ℕ) → Option (List ℕ) → Option (List ℕ) → Type 0
-Completed files words status out_before out_after err_before err_after =
-    (outcome : Outcome) → IsOutcome files words outcome →
-    ((status ≡ outcome.status) × Added out_before out_after outcome.out × Added err_before err_after outcome.err) ⊎ (status ≡ 9)
+-- a message that was due on standard error: that of the outcome, that of a write to standard output or to the folder which failed,
+-- that of a read which failed, or that of want of memory
+pub data IsDue (files : Files) (words : List (List ℕ)) (write_failed read_failed : Type 0) (message : List ℕ) : Type 0 where
+  OfOutcome : (outcome : Outcome) (is : IsOutcome files words outcome) (told : message ≡ outcome.err) → IsDue files words write_failed read_failed message
+  OfWrite : (failed : write_failed) (told : message ≡ write_fault) → IsDue files words write_failed read_failed message
+  OfRead : (failed : read_failed) (told : message ≡ read_fault) → IsDue files words write_failed read_failed message
+  OfMemory : (told : message ≡ no_memory) → IsDue files words write_failed read_failed message
+
+-- of a message that was due a front was added
+pub record CutMessage (files : Files) (words : List (List ℕ)) (write_failed read_failed : Type 0) (before after : Option (List ℕ)) : Type 0 where
+  pub message : List ℕ
+  pub due : IsDue files words write_failed read_failed message
+  pub added : AddedFront before after message
+
+-- the words are the command's, the source is legal, and the stimulus is there and has no bad line
+pub record IsGood (files : Files) (words : List (List ℕ)) : Type 0 where
+  pub sim : Sim
+  pub said : meaning_of words ≡ Ok sim
+  pub bytes : List ℕ
+  pub there : get files sim.file ≡ Some bytes
+  pub module_of : Module
+  pub source : IsSource sim.top bytes module_of
+  pub stimulus : List ℕ
+  pub stimulus_there : get files sim.stimulus ≡ Some stimulus
+  pub good : (stimulus_of (ports_of (design_of module_of)) step_limit stimulus).bad ≡ None

@@ -12,4 +12,3 @@ pub mod Loading
 pub mod Verdicts
 pub mod Compiling
 pub mod Telling
-pub mod Benching

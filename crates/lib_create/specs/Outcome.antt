@@ -13,10 +13,11 @@ use Rattle.sv_lexer.specs.declared.token.Token.{Token}
 use Rattle.sv_lexer.specs.Cutting as lexer
 use Rattle.sv_ast.specs.declared.module.Module as source
 use Rattle.module_parser.specs.Outcome as parser
+use Rattle.session.specs.declared.playing.TheConstants.{STEP_LIMIT}
 use Rattle.lib_create.specs.declared.tree.Module.{Module}
 use Rattle.lib_create.specs.Command.{Sim, Misuse, Wrong, TooFew, meaning_of}
 use Rattle.lib_create.specs.Design.{design_of, IsLegal, IsIllegal}
-use Rattle.stimulus_reader.specs.Stimulus.{BadLine, Script, script_of, reason_text}
+use Rattle.stimulus_reader.specs.Stimulus.{BadLine, Stimulus, stimulus_of, reason_text}
 
 -- how a run ends that no call of the outside cuts short
 pub data Verdict : Type 0 where
@@ -68,7 +69,7 @@ abbrev pub source_limit : ℕ
 source_limit = 1048576
 
 abbrev pub step_limit : ℕ
-step_limit = 16777215
+step_limit = STEP_LIMIT
 
 -- the refusal of a source above its limit
 abbrev pub source_too_long : Refusal
@@ -90,18 +91,18 @@ pub data IsRefused (top bytes : List ℕ) (refusal : Refusal) : Type 0 where
   NoModules : (short : length bytes ≤ source_limit) (tokens : List Token) (lexed : lexer.IsTokens 1 bytes tokens) (refused : parser.IsRefused tokens refusal) → IsRefused top bytes refusal
   NoDesign : (short : length bytes ≤ source_limit) (tokens : List Token) (lexed : lexer.IsTokens 1 bytes tokens) (modules : List source.Module) (read : parser.IsRead tokens modules) (illegal : IsIllegal top modules refusal) → IsRefused top bytes refusal
 
--- how the run of a design ends, and its trace, by the script of its stimulus
+-- how the run of a design ends, and its trace, by its stimulus
 abbrev pub verdict_of_bad : Option BadLine → Verdict
 verdict_of_bad None = Done
 verdict_of_bad (Some bad) = Bad bad
 
-abbrev pub Plays : Spec → Script → Verdict → List ℕ → Type 0
-Plays spec script verdict trace = (verdict ≡ verdict_of_bad script.bad) × IsTrace spec script.steps trace
+abbrev pub EndsWithSteps : Spec → Stimulus → Verdict → List ℕ → Type 0
+EndsWithSteps spec stimulus verdict trace = (verdict ≡ verdict_of_bad stimulus.bad) × IsTrace spec stimulus.steps trace
 
 -- the stimulus is not there: the trace has no step but step 0
 abbrev pub EndsWithStimulus : Spec → Option (List ℕ) → Verdict → List ℕ → Type 0
 EndsWithStimulus spec None verdict trace = (verdict ≡ StimulusAbsent) × IsTrace spec [] trace
-EndsWithStimulus spec (Some bytes) verdict trace = Plays spec (script_of (ports_of spec) step_limit bytes) verdict trace
+EndsWithStimulus spec (Some bytes) verdict trace = EndsWithSteps spec (stimulus_of (ports_of spec) step_limit bytes) verdict trace
 
 -- the source has a legal design, or it is refused
 abbrev pub EndsWithSource : Files → Sim → Option (List ℕ) → Verdict → List ℕ → Type 0

@@ -24,6 +24,7 @@ pub fn one_source()
 pub fn one_end()
     ensures { (files : Files) (words : List (List ℕ)) (first second : Verdict) (trace other : List ℕ) → Ends files words first trace → Ends files words second other → (first ≡ second) × (trace ≡ other) }
 {
+    net_ir::law::plain_solution();
     net_ir::law::one_trace();
     one_source();
 }

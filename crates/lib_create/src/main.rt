@@ -1,7 +1,6 @@
 //! Compiles a synthesizable subset of SystemVerilog and simulates it in cycles with two-valued bits.
 #![tactic(auto)]
 
-mod bench;
 mod command;
 mod compile;
 mod elaboration;
@@ -33,11 +32,7 @@ fn main(rt: HostRuntime) -> io::Result<ExitCode> {
     for word in env::args(&rt)?.skip(1) {
         words.push(word)?;
     }
-    let mut folder = DiskFolder {
-        rt: &rt,
-        read_faults: 0,
-        write_faults: 0,
-    };
+    let mut folder = DiskFolder::new(rt.alloc(), &rt);
     let mut out = StreamSink {
         to: rt.stdout(),
         faults: 0,

@@ -7,10 +7,10 @@ ghost use Rattle.sv_base.specs.declared.face.Port.{Port};
 ghost use Rattle.net_ir.specs.Face.{ports_of};
 ghost use Rattle.net_ir.specs.Plain.{IsPlain};
 
-use crate::bench::PlainBench;
 use crate::compile::{Compiled, compile_bytes};
 use io_edge::{MemSink, MemSource};
-use net_ir::{Spec, face};
+use net_ir::{Spec, face, law};
+use plain_run::PlainBench;
 use session::{PlayFault, play};
 use std::alloc::{AllocError, AllocGlobal, Global};
 use std::process::Abort;
@@ -56,7 +56,7 @@ fn calls(alloc: Global, fail: u64) -> Result<Vec<u64>, AllocError> {
 }
 
 // Plays on the inverter, with as many steps as are allowed and the number of the read and of the write that fails, 0 for
-// none. One byte is taken by a write.
+// none. One byte is taken by a read, and by a write.
 fn played(
     rt: &(impl AllocGlobal + Abort),
     stimulus: &str,
@@ -66,6 +66,7 @@ fn played(
 ) -> Result<(String, Vec<u8>), Fail>
     requires { steps ≤ 100 }
 {
+    law::plain_ports();
     let alloc = rt.alloc();
     let spec = design(alloc, INVERTER)?;
     let face = face(alloc, &spec)?;
@@ -111,7 +112,9 @@ fn steps_are_played_up_to_the_limit(rt: HostRuntime) -> Result<(), Fail> {
     Ok(())
 }
 
-// The stimulus has 12 bytes, so its end is the 13th read.
+// Each line of the stimulus has 6 bytes, of which a read takes one, and a line is played before any further read. So
+// read 1 comes behind the header and step 0, read 7 behind step 1 too, and read 13, which would find the end, behind
+// step 2. These have 13 bytes, and 6 for each step.
 #[test]
 fn each_read_that_fails_leaves_the_lines_before_it(rt: HostRuntime) -> Result<(), Fail> {
     for read in 1..14u64 {

@@ -1,34 +1,31 @@
 //! A run of a design on its stimulus file.
 
-ghost use Rattle.std.specs.Prelude.{◌≡◌, ◌≤◌, ℕ, List, [], length, map, None, Some, is_some, unwrap_or, IfOk, IfErr, IfSome, OnErr};
+ghost use Rattle.std.specs.Prelude.{◌≡◌, ◌≤◌, ◌⊎◌, ℕ, List, [], map, is_some, unwrap_or, IfOk, IfErr, IfSome, OnErr};
 ghost use Rattle.std.specs.FinMap.{get};
 ghost use Rattle.std.specs.List.{IsDistinct};
 ghost use Rattle.std.specs.Str.{bytes_eq};
-ghost use Rattle.io_edge.specs.Told.{Added, AddedFront};
+ghost use Rattle.io_edge.specs.Told.{Added};
 ghost use Rattle.sv_base.specs.declared.face.Port.{Port};
-ghost use Rattle.net_ir.specs.Face.{ports_of, face_of};
+ghost use Rattle.sv_base.specs.Meaning.{first_state, held_in};
+ghost use Rattle.net_ir.specs.Face.{ports_of};
 ghost use Rattle.net_ir.specs.Plain.{IsPlain};
-ghost use Rattle.net_ir.specs.Run.{start};
-ghost use Rattle.stimulus_reader.specs.Stimulus.{script_of};
 ghost use Rattle.session.specs.Playing as played;
-ghost use Rattle.session.specs.Playing.{IsPlayed, LeavesTrace};
+ghost use Rattle.session.specs.Playing.{ArePlayable};
 ghost use Rattle.lib_create.specs.Verdicts.{verdict_seen};
-ghost use Rattle.lib_create.specs.Running.{IsReadCause, IsPlayCause};
-ghost use Rattle.lib_create.specs.Outcome as outcome;
+ghost use Rattle.lib_create.specs.Running.{IsReadCause, IsPlayCause, PlayedOver};
 ghost use Rattle.lib_create.specs.Outcome.{step_limit, EndsWithStimulus};
+ghost use Rattle.lib_create.specs.Answer.{HasCome};
 
-use crate::bench::PlainBench;
 use crate::stop::Stop;
 use crate::verdict::{BadLine, Verdict};
 use io_edge::{Folder, FolderSource, Got, Sink};
 use model_stage::Bench;
 use net_ir::{Spec, face, law};
+use plain_run::PlainBench;
+use session::playing::STEP_LIMIT;
 use session::{PlayFault, play};
 use std::alloc::Global;
 use sv_base::Face;
-
-/// The most steps after step 0.
-const STEP_LIMIT: u64 = 16_777_215;
 
 /// Runs a design on its stimulus file and writes its trace.
 pub fn run_design<'a, D: Folder, K: Sink>(
@@ -42,15 +39,18 @@ pub fn run_design<'a, D: Folder, K: Sink>(
     requires names { IsDistinct bytes_eq (map (λ (p : Port). p.name) (ports_of spec)) }
     ensures ends { IfOk result (λ verdict. IfSome (D.content folder.old) (λ files. (trace : List ℕ)
         × EndsWithStimulus spec (get files stimulus.now) (verdict_seen verdict) trace × Added (K.written out.old) (K.written out.new) trace)) }
-    ensures cut { OnErr result (IfSome (D.content folder.old) (λ files. (verdict : outcome.Verdict) (trace : List ℕ) →
-        EndsWithStimulus spec (get files stimulus.now) verdict trace → AddedFront (K.written out.old) (K.written out.new) trace)) }
+    ensures cut { OnErr result (IfSome (D.content folder.old) (λ files.
+        Added (K.written out.old) (K.written out.new) [] ⊎ HasCome spec (get files stimulus.now) (K.written out.old) (K.written out.new))) }
     ensures cause { IfErr result (λ stop. IsPlayCause stop (D.read_faults folder.old) (D.read_faults folder.new) (K.faults out.old) (K.faults out.new)) }
     ensures unchanged { D.content folder.new ≡ D.content folder.old }
     ensures read_later { D.read_faults folder.old ≤ D.read_faults folder.new }
     ensures no_write { D.write_faults folder.new ≡ D.write_faults folder.old }
     ensures out_later { K.faults out.old ≤ K.faults out.new }
 {
-    law::one_trace();
+    law::plain_ports();
+    law::plain_idle();
+    law::benched_run();
+    session::law::text_of_rows();
     let seen = match face(alloc, &spec) {
         Err(_) => return Err(Stop::NoMemory),
         Ok(seen) => seen,
@@ -84,17 +84,12 @@ fn play_file<B: Bench, D: Folder, K: Sink>(
     folder: &mut D,
     out: &mut K,
 ) -> Result<u64, PlayFault>
-    requires plain { IsPlain (B.design bench.old) }
-    requires face { seen.now ≡ face_of (B.design bench.old) }
-    requires names { IsDistinct bytes_eq (map (λ p. p.name) seen.now.ports) }
-    requires start { B.state bench.old ≡ start (B.design bench.old) }
+    requires face { seen.now.ports ≡ (B.meaning bench.old).ports }
+    requires ports { ArePlayable seen.now.ports }
+    requires start { B.held bench.old ≡ held_in (B.meaning bench.old).ports (first_state (B.meaning bench.old)) }
     requires room { step_limit ≤ B.room bench.old }
-    ensures played { IfOk result (λ steps. IfSome (D.content folder.old) (λ files.
-        IsPlayed (B.design bench.old) (script_of (ports_of (B.design bench.old)) step_limit (unwrap_or (get files stimulus.now) [])) None (K.written out.old) (K.written out.new))) }
-    ensures counted { IfOk result (λ steps. IfSome (D.content folder.old) (λ files.
-        steps ≡ length (script_of (ports_of (B.design bench.old)) step_limit (unwrap_or (get files stimulus.now) [])).steps)) }
-    ensures refused { IfErr result (λ fault. IfSome (D.content folder.old) (λ files.
-        LeavesTrace (B.design bench.old) (script_of (ports_of (B.design bench.old)) step_limit (unwrap_or (get files stimulus.now) [])) (K.written out.old) (K.written out.new) fault)) }
+    ensures played { IfSome (D.content folder.old) (λ files.
+        PlayedOver (B.meaning bench.old) result (unwrap_or (get files stimulus.now) []) (K.written out.old) (K.written out.new)) }
     ensures cause { IfErr result (λ fault. played.IsPlayCause fault (D.read_faults folder.old) (D.read_faults folder.new) (K.faults out.old) (K.faults out.new)) }
     ensures unchanged { D.content folder.new ≡ D.content folder.old }
     ensures read_later { D.read_faults folder.old ≤ D.read_faults folder.new }
@@ -109,7 +104,7 @@ fn play_file<B: Bench, D: Folder, K: Sink>(
     play(alloc, bench, seen, &mut source, out, STEP_LIMIT)
 }
 
-/// Whether a file is there.
+/// Whether a file is there. No byte of it is read.
 fn is_there<D: Folder>(folder: &mut D, name: &str) -> Result<bool, Stop>
     ensures there { IfOk result (λ there. IfSome (D.content folder.old) (λ files. there ≡ is_some (get files name.now))) }
     ensures cause { IfErr result (λ stop. IsReadCause stop (D.read_faults folder.old) (D.read_faults folder.new)) }
@@ -117,7 +112,7 @@ fn is_there<D: Folder>(folder: &mut D, name: &str) -> Result<bool, Stop>
     ensures later { D.read_faults folder.old ≤ D.read_faults folder.new }
     ensures no_write { D.write_faults folder.new ≡ D.write_faults folder.old }
 {
-    let mut probe = [0u8; 1];
+    let mut probe = [0u8; 0];
     match folder.read_at(name, 0, &mut probe) {
         Err(_) => Err(Stop::ReadFault),
         Ok(Got::Absent) => Ok(false),

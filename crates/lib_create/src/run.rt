@@ -7,8 +7,9 @@ ghost use Rattle.io_edge.specs.Told.{Added};
 ghost use Rattle.model_stage.specs.Order.{Picks};
 ghost use Rattle.lib_create.specs.Outcome.{status_of, message_of};
 ghost use Rattle.lib_create.specs.Verdicts.{verdict_seen};
+ghost use Rattle.lib_create.specs.Running.{HasNoFault};
 ghost use Rattle.lib_create.specs.Telling.{ToldAs, stop_status, stop_text};
-ghost use Rattle.lib_create.specs.Answer.{read_fault, write_fault, no_memory, Answered, CutShort, CutMessage, Completed};
+ghost use Rattle.lib_create.specs.Answer.{read_fault, write_fault, no_memory, Answered, CutShort, CutMessage, IsGood};
 
 use crate::law;
 use crate::simulate::simulate;
@@ -36,7 +37,7 @@ pub fn run_words<D: Folder, K: Sink, E: Sink, F: Fn(u32, u32) -> u32>(
     ensures answered { result ≤ 6 → IfSome (D.content folder.old) (λ files.
         Answered files (map string_bytes words.now.items) result (K.written out.old) (K.written out.new) (E.written err.old) (E.written err.new)) }
 
-    // With any other answer a front of the outcome's output was added, and a message of the fault.
+    // With any other answer the run was cut short: a front of what was due was added, and a message of the fault.
     ensures cut_short { 7 ≤ result → IfSome (D.content folder.old) (λ files.
         CutShort files (map string_bytes words.now.items) (K.written out.old) (K.written out.new)) }
     ensures read_fault_told { result ≡ 7 → Added (E.written err.old) (E.written err.new) read_fault }
@@ -60,14 +61,16 @@ pub fn run_words<D: Folder, K: Sink, E: Sink, F: Fn(u32, u32) -> u32>(
     // The folder's files are as before.
     ensures untouched { D.content folder.new ≡ D.content folder.old }
 
-    // Where no count rose, the outcome was given, unless memory ran out.
-    ensures complete { (Rose (D.read_faults folder.old) (D.read_faults folder.new) → ⊥)
-        → (Rose (K.faults out.old) (K.faults out.new) → ⊥) → (Rose (E.faults err.old) (E.faults err.new) → ⊥)
-        → (Rose (D.write_faults folder.old) (D.write_faults folder.new) → ⊥)
-        → IfSome (D.content folder.old) (λ files.
-        Completed files (map string_bytes words.now.items) result (K.written out.old) (K.written out.new) (E.written err.old) (E.written err.new)) }
+    // Where no count rose, the outcome was given, unless memory ran out; and good words, source and stimulus give 0.
+    ensures complete { HasNoFault (D.read_faults folder.old) (D.read_faults folder.new) (D.write_faults folder.old) (D.write_faults folder.new)
+        (K.faults out.old) (K.faults out.new) (E.faults err.old) (E.faults err.new) → IfSome (D.content folder.old) (λ files.
+        Answered files (map string_bytes words.now.items) result (K.written out.old) (K.written out.new) (E.written err.old) (E.written err.new) ⊎ (result ≡ 9)) }
+    ensures succeeds { HasNoFault (D.read_faults folder.old) (D.read_faults folder.new) (D.write_faults folder.old) (D.write_faults folder.new)
+        (K.faults out.old) (K.faults out.new) (E.faults err.old) (E.faults err.new) → IfSome (D.content folder.old) (λ files.
+        IsGood files (map string_bytes words.now.items) → (result ≡ 0) ⊎ (result ≡ 9)) }
 {
     law::one_end();
+    law::one_source();
     match simulate(alloc, words.as_slice(), folder, out) {
         Err(stop) => complain(err, stop),
         Ok(verdict) => report(alloc, err, &verdict),

@@ -130,8 +130,8 @@ fn gives_in_each_order(
     requires { 0 < most }
 {
     let first = Order::new(|_, _| 0);
-    let last = Order::new(|_, n| if n == 0 { 0 } else { n - 1 });
-    let turned = Order::new(|s, n| if n == 0 { 0 } else { s % n });
+    let last = Order::new(|_, n| n - 1);
+    let turned = Order::new(|s, n| s % n);
     gives(rt, words, files, no_fault(most), &first, wanted)?;
     gives(rt, words, files, no_fault(most), &last, wanted)?;
     gives(rt, words, files, no_fault(most), &turned, wanted)
@@ -146,7 +146,8 @@ fn always_gives(
 ) -> Result<(), Fail> {
     gives_in_each_order(rt, words, files, 1, wanted)?;
     gives_in_each_order(rt, words, files, 2, wanted)?;
-    gives_in_each_order(rt, words, files, 7, wanted)
+    gives_in_each_order(rt, words, files, 7, wanted)?;
+    gives_in_each_order(rt, words, files, 4096, wanted)
 }
 
 const SIM: [&str; 4] = ["sim", "s.txt", "t", "t.sv"];
@@ -585,10 +586,17 @@ fn bad_lines_of_clocks_end_the_trace(rt: HostRuntime) -> Result<(), Fail> {
     Ok(())
 }
 
-// The calls that fail among the reads, those of `out` and those of `err`, and what is given.
-const FAULTS: [(&[u64], &[u64], &[u64], (u8, &str, &str)); 7] = [
+// The calls that fail among the reads, those of `out` and those of `err`, and what is given. Reads 1 and 2 take the
+// source and find its end, read 3 takes the stimulus, and read 4 finds the end of that.
+const FAULTS: [(&[u64], &[u64], &[u64], (u8, &str, &str)); 8] = [
     (&[1], &[], &[], (7, "", "read fault\n")),
     (&[3], &[], &[], (7, "step a:1 y:1\n0 0 1\n", "read fault\n")),
+    (
+        &[4],
+        &[],
+        &[],
+        (7, "step a:1 y:1\n0 0 1\n1 1 0\n2 0 1\n", "read fault\n"),
+    ),
     (&[], &[1], &[], (8, "", "write fault\n")),
     (
         &[],
@@ -613,6 +621,58 @@ fn faults_are_told(rt: HostRuntime) -> Result<(), Fail> {
             err,
         };
         gives(&rt, &SIM, &files, outside, &order, wanted)?;
+    }
+    Ok(())
+}
+
+// Stimuli that are read 8 bytes at a time, the read behind those of the source that fails, and the trace behind its header.
+// One of no steps is looked for once more by a read of no bytes.
+const CUT: [(&str, u64, &str); 6] = [
+    ("d a=1\nd a=0\n", 1, "0 0 1\n"),
+    ("d a=1\nd a=0\n", 2, "0 0 1\n1 1 0\n"),
+    ("d a=1\nd a=0\n", 3, "0 0 1\n1 1 0\n2 0 1\n"),
+    ("d a=1\nd a=0", 3, "0 0 1\n1 1 0\n"),
+    ("", 1, "0 0 1\n"),
+    ("", 2, "0 0 1\n"),
+];
+
+// The source has 65 bytes, so 9 reads take it and one more finds its end.
+#[test]
+fn reads_that_fail_leave_the_steps_before_them(rt: HostRuntime) -> Result<(), Fail> {
+    let order = Order::new(|_, _| 0);
+    for (stimulus, read, steps) in CUT {
+        let reads = [10 + read];
+        let outside = Outside {
+            most: 8,
+            reads: &reads,
+            out: &[],
+            err: &[],
+        };
+        let files = [("t.sv", INVERTER), ("s.txt", stimulus)];
+        let trace = format!(in rt.alloc(); "step a:1 y:1\n{steps}")?;
+        let wanted = (7, trace.as_str(), "read fault\n");
+        gives(&rt, &SIM, &files, outside, &order, wanted)?;
+    }
+    Ok(())
+}
+
+// 10,000 lines of 6 bytes, in pieces that cut lines: the last step is even, so its input is 0.
+#[test]
+fn a_long_stimulus_is_played_to_its_end(rt: HostRuntime) -> Result<(), Fail> {
+    let mut stimulus = String::new(rt.alloc());
+    for _ in 0..5000u32 {
+        stimulus.push_str("d a=1\nd a=0\n")?;
+    }
+    let files = [("t.sv", INVERTER), ("s.txt", stimulus.as_str())];
+    let order = Order::new(|_, _| 0);
+    for most in [7usize, 4095, 4096, 5000] {
+        if most == 0 {
+            return Err("no room")?;
+        }
+        let got = run(&rt, &SIM, &files, no_fault(most), &order)?;
+        assert_eq!(rt; got.status, 0, "{most}");
+        assert!(rt; got.out.ends_with(b"\n9999 1 0\n10000 0 1\n"), "{most}");
+        assert!(rt; got.err.is_empty(), "{most}");
     }
     Ok(())
 }

@@ -1,6 +1,5 @@
-mod Ports
-mod Shown
 mod Stepped
-mod Played
-mod Begun
-mod Turns
+mod Rows
+mod Texts
+mod Underway
+mod Ends

@@ -1,3 +1,2 @@
 pub mod Playing
-pub mod Showing
-pub mod Standing
+pub mod code

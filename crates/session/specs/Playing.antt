@@ -1,79 +1,98 @@
 -- What playing a stimulus on a bench writes, and where it leaves the bench.
-use Rattle.std.specs.Prelude.{◌≡◌, ℕ, ◌<◌, ◌≤◌, List, [], ◌∷◌, ◌++◌, length, take, Option, Some, Result, Ok, Err, ⊤}
+use Rattle.std.specs.Prelude.{◌≡◌, ℕ, ◌<◌, Bool, true, List, [], ◌∷◌, ◌++◌, length, map, take, Option, None, Some, Result, Ok, Err, ⊤}
+use Rattle.std.specs.List.{AllByRecursion, IsDistinct}
+use Rattle.std.specs.Str.{bytes_eq}
+use Rattle.bit_ops.specs.Width.{IsWidth}
 use Rattle.io_edge.specs.Fault.{Rose}
-use Rattle.io_edge.specs.Told.{Added, AddedFront}
-use Rattle.sv_base.specs.Steps.{Step}
-use Rattle.net_ir.specs.declared.design.Spec.{Spec}
-use Rattle.net_ir.specs.Run.{State, start}
-use Rattle.net_ir.specs.Stepping.{Follows}
-use Rattle.net_ir.specs.Idle.{DifferInIdle}
-use Rattle.net_ir.specs.Trace.{IsTrace}
+use Rattle.io_edge.specs.Told.{Added, IsAtEnd}
+use Rattle.sv_base.specs.declared.face.Class.TheVariants.{Clock}
+use Rattle.sv_base.specs.declared.face.Port.{Port}
+use Rattle.sv_base.specs.Steps.{Step, StepFits}
+use Rattle.sv_base.specs.TraceText.{header, line, trace_text}
+use Rattle.sv_base.specs.Meaning.{State, Held, Meaning, held_in, Plays}
 use Rattle.stimulus_reader.specs.declared.reason.Reason.{Reason}
-use Rattle.stimulus_reader.specs.Stimulus.{BadLine, Script}
+use Rattle.stimulus_reader.specs.Stimulus.{BadLine, stimulus_of}
+use Rattle.stimulus_reader.specs.Stimulus as stimulus
 use Rattle.session.specs.declared.fault.PlayFault.{PlayFault}
 use Rattle.session.specs.declared.fault.PlayFault.TheVariants.{Stimulus, ReadFault, WriteFault, NoMemory}
 
--- the trace over the script's steps was added, and this is its bad line or none
-abbrev pub IsPlayed : Spec → Script → Option BadLine → Option (List ℕ) → Option (List ℕ) → Type 0
-IsPlayed spec script bad before after = (trace : List ℕ) × IsTrace spec script.steps trace × Added before after trace × (script.bad ≡ bad)
+-- ports that a stimulus can set and a trace can show: each has a width that a value may have, clocks have one bit, and no two have
+-- one name
+pub record ArePlayable (ports : List Port) : Type 0 where
+  pub widths : AllByRecursion (λ (p : Port). IsWidth p.width) ports
+  pub clocks : AllByRecursion (λ (p : Port). p.class ≡ Clock → p.width ≡ 1) ports
+  pub distinct : IsDistinct bytes_eq (map (λ (p : Port). p.name) ports)
 
--- of each trace over the script's steps a front was added
-abbrev pub IsPlayedFront : Spec → Script → Option (List ℕ) → Option (List ℕ) → Type 0
-IsPlayedFront spec script before after = (trace : List ℕ) → IsTrace spec script.steps trace → AddedFront before after trace
+-- ---- the stimulus
 
--- steps lead from one state to another
-abbrev pub Reaches : Spec → State → List Step → State → Type 0
-Reaches spec from [] to = to ≡ from
-Reaches spec from (step ∷ steps) to = (next : State) × Follows spec from step next × Reaches spec next steps to
-
--- how far a run has come by its answer: after these steps of a script, before that rest, where so many of the bytes that are due up
--- to the line of the last of them were added
-abbrev pub HasCome : Result ℕ PlayFault → List Step → List Step → List ℕ → ℕ → Type 0
-HasCome (Ok steps) made rest due count = (rest ≡ []) × (count ≡ length due)
-HasCome (Err (Stimulus line reason word)) made rest due count = (rest ≡ []) × (count ≡ length due)
-HasCome (Err ReadFault) made rest due count = count ≡ length due
-HasCome (Err WriteFault) made rest due count = count < length due
-HasCome (Err NoMemory) made rest due count = (made ≡ []) × (count ≡ 0)
-
--- all that is due before the line of the last of the steps is no more than this
-abbrev pub ReachesLast : Spec → List Step → ℕ → Type 0
-ReachesLast spec made count =
-    (shorter : List Step) (step : Step) → made ≡ shorter ++ step ∷ [] → (lines : List ℕ) × IsTrace spec shorter lines × (length lines ≤ count)
-
--- A bench stands behind some first steps of a script, the last of which is the last whose line was offered: its state is the one
--- that they reach, but for idle inputs. Of what is due up to that line so much was added as the answer says, and all lines before
--- it were.
-pub record StandsBehind (spec : Spec) (script : Script) (state : State) (before after : Option (List ℕ)) (answer : Result ℕ PlayFault) : Type 0 where
-  pub made : List Step
-  pub rest : List Step
-  pub parts : script.steps ≡ made ++ rest
-  pub reached : State
-  pub reaches : Reaches spec (start spec) made reached
-  pub idle : DifferInIdle spec state reached
-  pub due : List ℕ
-  pub trace : IsTrace spec made due
-  pub count : ℕ
-  pub come : HasCome answer made rest due count
-  pub added : Added before after (take count due)
-  pub earlier : ReachesLast spec made count
-
--- a bad line with this word
+-- a bad line
 abbrev pub bad_line : ℕ → Reason → List ℕ → BadLine
 bad_line line reason word = record { line = line; reason = reason; word = word }
 
--- a fault refuses the line of this number, for this reason and with this word
-abbrev pub IsRefusedAs : PlayFault → ℕ → Reason → List ℕ → Type 0
-IsRefusedAs (Stimulus line reason word) at why named = (line ≡ at) × (reason ≡ why) × (word.items ≡ named)
-IsRefusedAs ReadFault at why named = ⊥
-IsRefusedAs WriteFault at why named = ⊥
-IsRefusedAs NoMemory at why named = ⊥
+-- some steps, and then a stimulus
+abbrev pub behind_steps : List Step → stimulus.Stimulus → stimulus.Stimulus
+behind_steps made later = record { steps = made ++ later.steps; bad = later.bad }
 
--- what a fault says of the bytes that were added
-abbrev pub LeavesTrace : Spec → Script → Option (List ℕ) → Option (List ℕ) → PlayFault → Type 0
-LeavesTrace spec script before after (Stimulus line reason word) = IsPlayed spec script (Some (bad_line line reason word.items)) before after
-LeavesTrace spec script before after ReadFault = IsPlayedFront spec script before after
-LeavesTrace spec script before after WriteFault = IsPlayedFront spec script before after
-LeavesTrace spec script before after NoMemory = Added before after []
+-- these steps come first in the stimulus of the bytes that were taken, whatever may follow them
+abbrev pub ComeFirst : List Port → ℕ → Bool → List ℕ → List Step → Type 0
+ComeFirst ports most over taken made =
+    (rest : List ℕ) → (over ≡ true → rest ≡ []) → (later : stimulus.Stimulus) × (stimulus_of ports most (taken ++ rest) ≡ behind_steps made later)
+
+-- these are all steps before the first bad line, which is this one, whatever may follow
+abbrev pub EndIn : List Port → ℕ → Bool → List ℕ → List Step → BadLine → Type 0
+EndIn ports most over taken made bad =
+    (rest : List ℕ) → (over ≡ true → rest ≡ []) → stimulus_of ports most (taken ++ rest) ≡ record { steps = made; bad = Some bad }
+
+-- What an answer says of the stimulus, of which at most so many steps are allowed: these bytes were taken from the source, `over`
+-- says whether its end was seen, and these steps were made.
+abbrev pub Tells : List Port → ℕ → Result ℕ PlayFault → Bool → List ℕ → List Step → Type 0
+Tells ports most (Ok steps) over taken made = (over ≡ true) × (stimulus_of ports most taken ≡ record { steps = made; bad = None }) × (steps ≡ length made)
+Tells ports most (Err (Stimulus line reason word)) over taken made = EndIn ports most over taken made (bad_line line reason word.items)
+Tells ports most (Err ReadFault) over taken made = ComeFirst ports most over taken made
+Tells ports most (Err WriteFault) over taken made = ComeFirst ports most over taken made
+Tells ports most (Err NoMemory) over taken made = (taken ≡ []) × (made ≡ [])
+
+-- ---- the trace
+
+-- what is due before a row that stands behind these: nothing before the first, which comes with the header
+abbrev pub text_before : List Port → List (List ℕ) → List ℕ
+text_before ports [] = []
+text_before ports (first ∷ rows) = trace_text ports (first ∷ rows)
+
+-- what is due with that row: its line, and with the first the header
+abbrev pub text_with : List Port → List (List ℕ) → List ℕ → List ℕ
+text_with ports [] row = header ports ++ line 0 ports row
+text_with ports (first ∷ rows) row = line (length (first ∷ rows)) ports row
+
+-- What an answer says of the bytes that were added: all of what was due, up to the line that was offered last and with it; where a
+-- write failed, only a front of that line; and nothing where there was no memory.
+abbrev pub Writes : Result ℕ PlayFault → Option (List ℕ) → Option (List ℕ) → List ℕ → List ℕ → Type 0
+Writes (Ok steps) before after due offered = Added before after (due ++ offered)
+Writes (Err (Stimulus line reason word)) before after due offered = Added before after (due ++ offered)
+Writes (Err ReadFault) before after due offered = Added before after (due ++ offered)
+Writes (Err WriteFault) before after due offered = (n : ℕ) × (n < length offered) × Added before after (due ++ take n offered)
+Writes (Err NoMemory) before after due offered = Added before after []
+
+-- How far a bench has come by an answer, by what the bench means: `taken` was taken from the source, which has then `left`, the
+-- bench holds `held`, and what was written changed from `before` to `after`.
+pub record HasPlayed (meaning : Meaning) (most : ℕ) (answer : Result ℕ PlayFault) (taken : List ℕ) (left : Option (List ℕ)) (held : Held) (before after : Option (List ℕ)) : Type 0 where
+  -- whether the end of the source was seen; then nothing is left, where that is told
+  pub over : Bool
+  pub seen : over ≡ true → IsAtEnd left
+  -- the steps that were made
+  pub made : List Step
+  pub fitting : AllByRecursion (StepFits meaning.ports) made
+  pub tells : Tells meaning.ports most answer over taken made
+  -- the rows that they show, the last of them apart
+  pub shown : List (List ℕ)
+  pub row : List ℕ
+  pub last : State
+  pub run : Plays meaning made (shown ++ row ∷ []) last
+  -- the bench stands behind the last of them, whose line was the last that was offered
+  pub stands : held_in meaning.ports last ≡ held
+  pub writes : Writes answer before after (text_before meaning.ports shown) (text_with meaning.ports shown row)
+
+-- ---- causes
 
 -- only a read or a write that failed is told as a fault, of these counts of reads and of writes
 abbrev pub IsPlayCause : PlayFault → ℕ → ℕ → ℕ → ℕ → Type 0
@@ -88,3 +107,10 @@ IsUntouched (Stimulus line reason word) P = ⊤
 IsUntouched ReadFault P = ⊤
 IsUntouched WriteFault P = ⊤
 IsUntouched NoMemory P = P
+
+-- a fault refuses the line of this number, for this reason and with this word
+abbrev pub IsRefusedAs : PlayFault → ℕ → Reason → List ℕ → Type 0
+IsRefusedAs (Stimulus line reason word) at why named = (line ≡ at) × (reason ≡ why) × (word.items ≡ named)
+IsRefusedAs ReadFault at why named = ⊥
+IsRefusedAs WriteFault at why named = ⊥
+IsRefusedAs NoMemory at why named = ⊥

@@ -2,6 +2,7 @@
 #![tactic(auto)]
 
 pub mod fault;
+pub mod law;
 mod memory;
 pub mod playing;
 mod refusing;

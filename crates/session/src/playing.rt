@@ -1,13 +1,9 @@
 //! Playing.
 
-ghost use Rattle.std.specs.Prelude.{◌≡◌, ◌≤◌, ℕ, List, map, length, None, Some, IfOk, IfErr};
-ghost use Rattle.std.specs.List.{IsDistinct};
-ghost use Rattle.std.specs.Str.{bytes_eq};
-ghost use Rattle.net_ir.specs.Plain.{IsPlain};
-ghost use Rattle.net_ir.specs.Face.{face_of};
-ghost use Rattle.net_ir.specs.Run.{start};
-ghost use Rattle.stimulus_reader.specs.Stimulus.{script_of};
-ghost use Rattle.session.specs.Playing.{IsPlayed, LeavesTrace, StandsBehind, IsPlayCause, IsUntouched};
+ghost use Rattle.std.specs.Prelude.{◌≡◌, ◌≤◌, List, ℕ, IfOk, IfErr};
+ghost use Rattle.io_edge.specs.Told.{Took};
+ghost use Rattle.sv_base.specs.Meaning.{MeansSame, first_state, held_in};
+ghost use Rattle.session.specs.Playing.{ArePlayable, HasPlayed, IsPlayCause, IsUntouched};
 
 use crate::fault::PlayFault;
 use crate::memory::{Memory, take_memory};
@@ -16,10 +12,12 @@ use crate::showing::{begin, write_line};
 use crate::stepping::make_step;
 use io_edge::{Sink, Source};
 use model_stage::Bench;
-use net_ir::law;
 use std::alloc::Global;
 use stimulus_reader::StepFault;
 use sv_base::Face;
+
+/// The most steps after step 0 that a run may allow.
+pub const STEP_LIMIT: u64 = 16_777_215;
 
 /// Plays a stimulus on a bench that is at its start: writes the header of the trace and the line of step 0, then makes
 /// each step of the source and writes its line, up to the end of the source, to its first bad line, or to the step after
@@ -33,22 +31,16 @@ pub fn play<B: Bench, S: Source, K: Sink>(
     out: &mut K,
     max_steps: u64,
 ) -> Result<u64, PlayFault>
-    requires plain { IsPlain (B.design bench.old) }
-    requires face { face.now ≡ face_of (B.design bench.old) }
-    requires names { IsDistinct bytes_eq (map (λ p. p.name) face.now.ports) }
-    requires start { B.state bench.old ≡ start (B.design bench.old) }
+    requires face { face.now.ports ≡ (B.meaning bench.old).ports }
+    requires ports { ArePlayable face.now.ports }
+    requires start { B.held bench.old ≡ held_in (B.meaning bench.old).ports (first_state (B.meaning bench.old)) }
     requires room { max_steps ≤ B.room bench.old }
-    requires few { max_steps ≤ 16777215 }
-    // what is written, where the source tells its bytes
-    ensures played { IfOk result (λ steps. (bytes : List ℕ) → S.left source.old ≡ Some bytes →
-        IsPlayed (B.design bench.old) (script_of face.now.ports max_steps bytes) None (K.written out.old) (K.written out.new)) }
-    ensures counted { IfOk result (λ steps. (bytes : List ℕ) → S.left source.old ≡ Some bytes → steps ≡ length (script_of face.now.ports max_steps bytes).steps) }
-    ensures refused { IfErr result (λ fault. (bytes : List ℕ) → S.left source.old ≡ Some bytes →
-        LeavesTrace (B.design bench.old) (script_of face.now.ports max_steps bytes) (K.written out.old) (K.written out.new) fault) }
-    // where the bench stands
-    ensures design { B.design bench.new ≡ B.design bench.old }
-    ensures stands { (bytes : List ℕ) → S.left source.old ≡ Some bytes →
-        StandsBehind (B.design bench.old) (script_of face.now.ports max_steps bytes) (B.state bench.new) (K.written out.old) (K.written out.new) result }
+    requires few { max_steps ≤ STEP_LIMIT }
+    // What was taken from the source, told or not, which steps that were, what was written of their trace, and where the
+    // bench stands.
+    ensures played { (taken : List ℕ) × Took (S.left source.old) (S.left source.new) taken
+        × HasPlayed (B.meaning bench.old) max_steps result taken (S.left source.new) (B.held bench.new) (K.written out.old) (K.written out.new) }
+    ensures same { MeansSame (B.meaning bench.old) (B.meaning bench.new) }
     // causes
     ensures cause { IfErr result (λ fault. IsPlayCause fault (S.faults source.old) (S.faults source.new) (K.faults out.old) (K.faults out.new)) }
     ensures memory { IfErr result (λ fault. IsUntouched fault ((source.new ≡ source.old) × (out.new ≡ out.old) × (bench.new ≡ bench.old))) }
@@ -56,19 +48,16 @@ pub fn play<B: Bench, S: Source, K: Sink>(
     ensures source_later { S.faults source.old ≤ S.faults source.new }
     ensures out_later { K.faults out.old ≤ K.faults out.new }
 {
-    law::one_trace();
-    law::one_next();
     let Memory {
         mut reader,
         header,
-        mut line,
-        mut values,
+        mut buffers,
     } = match take_memory(alloc, face) {
         Ok(memory) => memory,
         Err(_) => return Err(PlayFault::NoMemory),
     };
     let ports = face.ports.as_slice();
-    match begin(&header, bench, &reader, ports, &mut values, &mut line, out) {
+    match begin(&header, bench, &reader, ports, &mut buffers, out) {
         Ok(()) => {}
         Err(_) => return Err(PlayFault::WriteFault),
     }
@@ -82,7 +71,7 @@ pub fn play<B: Bench, S: Source, K: Sink>(
                 }
                 make_step(kind, &reader, bench);
                 number += 1;
-                match write_line(number, bench, &reader, ports, &mut values, &mut line, out) {
+                match write_line(number, bench, &reader, ports, &mut buffers, out) {
                     Ok(()) => {}
                     Err(_) => return Err(PlayFault::WriteFault),
                 }

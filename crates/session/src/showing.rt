@@ -1,26 +1,20 @@
 //! The lines of a trace: what a bench shows after a step.
 
-ghost use Rattle.std.specs.Prelude.{◌≡◌, ℕ, ◌<◌, ◌≤◌, ◌+◌, ◌^◌, ◌++◌, List, map, length, true, false, vec_capacity, MatchResult, OnErr, if◌then◌else◌, slice_index};
+ghost use Rattle.std.specs.Prelude.{◌≡◌, ◌<◌, ◌≤◌, ◌+◌, ◌++◌, length, map, true, false, slice_get, slice_index, Some, OnOk, OnErr, if◌then◌else◌};
+ghost use Rattle.std.specs.Vec.{vec_capacity};
 ghost use Rattle.bit_ops.specs.Lists.{words, widths};
 ghost use Rattle.io_edge.specs.Fault.{Rose};
 ghost use Rattle.io_edge.specs.Told.{Added, AddedShort};
-ghost use Rattle.sv_base.specs.TraceText.{header};
-ghost use Rattle.net_ir.specs.Face.{ports_of};
-ghost use Rattle.net_ir.specs.Plain.{IsPlain};
-ghost use Rattle.net_ir.specs.Run.{State, start};
-ghost use Rattle.net_ir.specs.Idle.{DifferInIdle};
-ghost use Rattle.net_ir.specs.Trace.{Shows};
-ghost use Rattle.model_stage.specs.Bench.{output_places, IsShown};
-ghost use Rattle.sv_base.specs.Classes.{is_output};
-ghost use Rattle.sv_base.specs.Classes.{is_input};
-ghost use Rattle.stimulus_reader.specs.Reading.{IsInputAt, at_front};
-ghost use Rattle.trace_writer.specs.Room.{line_room};
-ghost use Rattle.session.specs.Showing.{AreShown, IsRead};
+ghost use Rattle.sv_base.specs.TraceText.{header, line};
+ghost use Rattle.sv_base.specs.Classes.{is_input, is_output};
+ghost use Rattle.sv_base.specs.Meaning.{row_of, widths_of_class};
+ghost use Rattle.stimulus_reader.specs.Reading.{IsInputAt};
+ghost use Rattle.session.specs.code.Room.{HasRoom};
 
+use crate::memory::Buffers;
 use bit_ops::Bits;
 use io_edge::{Failed, Sink, offer};
 use model_stage::Bench;
-use net_ir::law;
 use stimulus_reader::StepReader;
 use sv_base::{Class, Port};
 use trace_writer::line;
@@ -44,11 +38,13 @@ fn port_value<B: Bench>(
     place: usize,
     outputs: usize,
 ) -> Bits
-    requires input { is_input class ≡ true → IsInputAt reader.now.ports place }
-    requires output { is_input class ≡ false → outputs < length (output_places (ports_of (B.design bench.now))) }
-    ensures word { is_input class ≡ true → result.word ≡ slice_index reader.now.values place }
-    ensures width { is_input class ≡ true → result.width ≡ slice_index (map (λ p. p.width) reader.now.ports) place }
-    ensures shown { is_input class ≡ false → IsShown (B.design bench.now) (B.state bench.now) outputs result }
+    requires input { is_output class ≡ false → IsInputAt reader.now.ports place }
+    requires output { is_output class ≡ true → outputs < length (B.outputs bench.now) }
+    ensures word { is_output class ≡ false → result.word ≡ slice_index reader.now.values place }
+    ensures width { is_output class ≡ false → result.width ≡ slice_index (map (λ p. p.width) reader.now.ports) place }
+    ensures shown { is_output class ≡ true → slice_get (B.outputs bench.now) outputs ≡ Some result.word }
+    ensures shown_width { is_output class ≡ true →
+        slice_get (widths_of_class is_output (B.meaning bench.now).ports) outputs ≡ Some result.width }
 {
     match class {
         Class::Output => bench.out(outputs),
@@ -58,10 +54,11 @@ fn port_value<B: Bench>(
 
 /// Puts the value of each port in place of what `values` held. Takes no memory.
 fn collect_values<B: Bench>(bench: &B, reader: &StepReader, ports: &[Port], values: &mut Vec<Bits>)
-    requires ports { ports.now ≡ ports_of (B.design bench.now) }
+    requires ports { ports.now ≡ (B.meaning bench.now).ports }
     requires reader { reader.now.ports ≡ ports.now }
     requires room { length ports.now ≤ vec_capacity values.old }
-    ensures shown { AreShown (B.design bench.now) (B.state bench.now) reader.now.values 0 ports.now values.new.items }
+    ensures words { words values.new.items ≡ row_of ports.now reader.now.values (B.outputs bench.now) }
+    ensures widths { widths values.new.items ≡ map (λ p. p.width) ports.now }
     ensures room { vec_capacity values.new ≡ vec_capacity values.old }
 {
     values.clear();
@@ -79,28 +76,23 @@ pub fn write_line<B: Bench, K: Sink>(
     bench: &B,
     reader: &StepReader,
     ports: &[Port],
-    values: &mut Vec<Bits>,
-    text: &mut Vec<u8>,
+    buffers: &mut Buffers,
     out: &mut K,
 ) -> Result<(), Failed>
-    requires plain { IsPlain (B.design bench.now) }
-    requires ports { ports.now ≡ ports_of (B.design bench.now) }
+    requires ports { ports.now ≡ (B.meaning bench.now).ports }
     requires reader { reader.now.ports ≡ ports.now }
-    requires values { length ports.now ≤ vec_capacity values.old }
-    requires text { line_room (map (λ p. p.width) ports.now) ≤ vec_capacity text.old }
-    ensures shows { (t : State) → DifferInIdle (B.design bench.now) (B.state bench.now) t → IsRead ports.now reader.now.values t.inputs →
-        (bytes : List ℕ) × Shows (B.design bench.now) number t bytes
-        × MatchResult result (λ _. Added (K.written out.old) (K.written out.new) bytes) (λ _. AddedShort (K.written out.old) (K.written out.new) bytes) }
-    ensures values { vec_capacity values.new ≡ vec_capacity values.old }
-    ensures text { vec_capacity text.new ≡ vec_capacity text.old }
+    requires room { HasRoom ports.now buffers.old }
+    ensures whole { OnOk result (Added (K.written out.old) (K.written out.new)
+        (line number ports.now (row_of ports.now reader.now.values (B.outputs bench.now)))) }
+    ensures short { OnErr result (AddedShort (K.written out.old) (K.written out.new)
+        (line number ports.now (row_of ports.now reader.now.values (B.outputs bench.now)))) }
+    ensures room { HasRoom ports.now buffers.new }
     ensures failed { OnErr result (Rose (K.faults out.old) (K.faults out.new)) }
     ensures later { K.faults out.old ≤ K.faults out.new }
 {
-    law::idle_inputs();
-    law::one_solution();
-    collect_values(bench, reader, ports, values);
-    line(number, values, text);
-    offer(out, text)
+    collect_values(bench, reader, ports, &mut buffers.values);
+    line(number, &buffers.values, &mut buffers.text);
+    offer(out, &buffers.text)
 }
 
 /// Writes the header of a trace and the line of step 0. Takes no memory.
@@ -109,30 +101,21 @@ pub fn begin<B: Bench, K: Sink>(
     bench: &B,
     reader: &StepReader,
     ports: &[Port],
-    values: &mut Vec<Bits>,
-    text: &mut Vec<u8>,
+    buffers: &mut Buffers,
     out: &mut K,
 ) -> Result<(), Failed>
     requires head { head.now ≡ header ports.now }
-    requires plain { IsPlain (B.design bench.now) }
-    requires ports { ports.now ≡ ports_of (B.design bench.now) }
-    requires start { B.state bench.now ≡ start (B.design bench.now) }
-    requires reader { reader.now ≡ at_front ports.now }
-    requires values { length ports.now ≤ vec_capacity values.old }
-    requires text { line_room (map (λ p. p.width) ports.now) ≤ vec_capacity text.old }
-    ensures began { (first : List ℕ) × Shows (B.design bench.now) 0 (start (B.design bench.now)) first
-        × MatchResult result (λ _. Added (K.written out.old) (K.written out.new) (header ports.now ++ first)) (λ _. AddedShort (K.written out.old) (K.written out.new) (header ports.now ++ first)) }
-    ensures values { vec_capacity values.new ≡ vec_capacity values.old }
-    ensures text { vec_capacity text.new ≡ vec_capacity text.old }
+    requires ports { ports.now ≡ (B.meaning bench.now).ports }
+    requires reader { reader.now.ports ≡ ports.now }
+    requires room { HasRoom ports.now buffers.old }
+    ensures whole { OnOk result (Added (K.written out.old) (K.written out.new)
+        (header ports.now ++ line 0 ports.now (row_of ports.now reader.now.values (B.outputs bench.now)))) }
+    ensures short { OnErr result (AddedShort (K.written out.old) (K.written out.new)
+        (header ports.now ++ line 0 ports.now (row_of ports.now reader.now.values (B.outputs bench.now)))) }
+    ensures room { HasRoom ports.now buffers.new }
     ensures failed { OnErr result (Rose (K.faults out.old) (K.faults out.new)) }
     ensures later { K.faults out.old ≤ K.faults out.new }
 {
-    match offer(out, head) {
-        Ok(()) => {}
-        Err(failed) => return Err(failed),
-    }
-    match write_line(0, bench, reader, ports, values, text, out) {
-        Ok(()) => Ok(()),
-        Err(failed) => Err(failed),
-    }
+    offer(out, head)?;
+    write_line(0, bench, reader, ports, buffers, out)
 }

@@ -1,14 +1,18 @@
-use Rattle.std.proofs.Common.{◌≡◌, length, take, vec_len, vec_capacity}
-use Rattle.model_stage.specs.Bench.{places_from}
+use Rattle.std.proofs.Common.{◌≡◌, ◌≤◌, ◌++◌, length, map, drop, vec_len, vec_capacity}
+use Rattle.bit_ops.specs.Lists.{words, widths}
+use Rattle.sv_base.specs.declared.face.Port.{Port}
 use Rattle.sv_base.specs.Classes.{is_output}
-use Rattle.session.specs.Showing.{AreShown}
+use Rattle.sv_base.specs.Meaning.{row_of, widths_of_class}
 use Rattle.session.proofs.showing.collect_values.Given as goal
 
--- the ports so far have their values, and the outputs among them are counted
+-- the values so far and what is left of the row are the row
 abbrev pub invariant-loop-place : goal.invariant-loop-place
 invariant-loop-place g l = record {
-  outputs : l.outputs ≡ length (places_from is_output 0 (take l.place l.ports));
+  outputs : drop l.outputs (widths_of_class is_output l.ports) ≡ widths_of_class is_output (drop l.place l.ports);
+  few : l.outputs ≤ l.place;
   len : vec_len l.values ≡ l.place;
-  shown : AreShown (g.B.Bench.design l.bench) (g.B.Bench.state l.bench) l.reader.values 0 (take l.place l.ports) l.values.items;
+  row_words : words l.values.items ++ row_of (drop l.place l.ports) (drop l.place l.reader.values) (drop l.outputs (g.B.Bench.outputs l.bench))
+      ≡ row_of l.ports l.reader.values (g.B.Bench.outputs l.bench);
+  row_widths : widths l.values.items ++ map (λ (p : Port). p.width) (drop l.place l.ports) ≡ map (λ (p : Port). p.width) l.ports;
   room : vec_capacity l.values ≡ vec_capacity l.fn.values;
 }
