@@ -1,5 +1,6 @@
 -- How a run ends.
-use Rattle.std.proofs.Common.{◌≡◌, ℕ, suc, ◌+◌, ◌-◌, ◌<◌, ◌≤◌, Bool, true, false, not, ◌&&◌, List, [], ◌∷◌, ◌++◌, length, take, ⊎_elim, Option, None, Some, Ok, Err, refl, sym, ◌∙◌, ap, subst, append_assoc, arith}
+use Rattle.std.proofs.Common.{◌≡◌, ℕ, suc, ◌+◌, ◌-◌, ◌<◌, ◌≤◌, Bool, true, false, not, ◌&&◌, List, [], ◌++◌, length, take, ⊎_elim, Option, None, Some, Ok}
+use Rattle.std.proofs.Common.{Err, refl, sym, ◌∙◌, ap, subst, append_assoc, arith}
 use Rattle.std.specs.Prelude.{◌==◌, if◌then◌else◌}
 use Rattle.std.proofs.lemmas.List.{append-nil}
 use Rattle.std.proofs.lemmas.Bool.{false≢true, eqb-true, eq-eqb, cases_lt}
@@ -12,8 +13,9 @@ use Rattle.sv_base.specs.Classes.{is_output, is_clock, words_of_class}
 use Rattle.stimulus_reader.specs.declared.reason.Reason.{Reason}
 use Rattle.stimulus_reader.specs.declared.reason.Reason.TheVariants.{TooManySteps}
 use Rattle.stimulus_reader.specs.declared.step.StepKind.{StepKind}
-use Rattle.stimulus_reader.specs.Stimulus.{BadLine, stimulus_of, stopped, ended, step_of}
-use Rattle.stimulus_reader.specs.Reading.{Reading, at_front, stimulus_left, MayFollow, KeepsEnd, SawEnd, IsStep, IsEnd, IsBad, IsInterrupted, may_follow, passes_limit, bad_without_steps, word_of}
+use Rattle.stimulus_reader.specs.Stimulus.{BadLine, stimulus_of, stopped, step_of}
+use Rattle.stimulus_reader.specs.Reading.{Reading, at_front, stimulus_left, MayFollow, KeepsEnd, SawEnd, IsStep, IsEnd, IsBad, IsInterrupted, may_follow}
+use Rattle.stimulus_reader.specs.Reading.{passes_limit, bad_without_steps, word_of}
 use Rattle.session.specs.declared.fault.PlayFault.{PlayFault}
 use Rattle.session.specs.declared.fault.PlayFault.TheVariants.{Stimulus, ReadFault, WriteFault, NoMemory}
 use Rattle.session.specs.Playing.{behind_steps, bad_line, EndIn, Tells, text_before, text_with, Writes, HasPlayed, IsRefusedAs}
@@ -21,8 +23,10 @@ use Rattle.session.proofs.Underway.{IsUnderway, HasStepped, Makes, shows_row, ha
 
 -- ---- at the end of the source
 
-pub played_out : (meaning : Meaning) (most : ℕ) (start_left before : Option (List ℕ)) (number : ℕ) (reader after_reader : Reading) (held : Held) (left left' after : Option (List ℕ)) (taken : List ℕ) →
-    IsUnderway meaning most start_left before number reader held left after → Took left left' taken → (SawEnd reader left → SawEnd after_reader left') → IsEnd reader after_reader taken →
+pub played_out : (meaning : Meaning) (most : ℕ) (start_left before : Option (List ℕ)) (number : ℕ) (reader after_reader : Reading) (held : Held)
+    (left left' after : Option (List ℕ)) (taken : List ℕ) →
+    IsUnderway meaning most start_left before number reader held left after → Took left left' taken → (SawEnd reader left → SawEnd after_reader left') →
+    IsEnd reader after_reader taken →
     (all : List ℕ) × Took start_left left' all × HasPlayed meaning most (Ok number) all left' held before after
 played_out meaning most start_left before number reader after_reader held left left' after taken far took sees ends =
     let follows : MayFollow reader taken = λ over. (ends.ends over).0 in (
@@ -35,7 +39,8 @@ played_out meaning most start_left before number reader after_reader held left l
         fitting = far.fitting;
         tells = (
           refl,
-          far.comes taken follows ∙ ap (behind_steps far.made) (ends.ended_there (most - number)) ∙ ap (λ steps. record { steps = steps; bad = None }) (append-nil far.made),
+          far.comes taken follows ∙ ap (behind_steps far.made) (ends.ended_there (most - number))
+              ∙ ap (λ steps. record { steps = steps; bad = None }) (append-nil far.made),
           sym far.count,
         );
         shown = far.shown;
@@ -49,7 +54,8 @@ played_out meaning most start_left before number reader after_reader held left l
 
 -- ---- at a bad line
 
-refused_tells : (fault : PlayFault) (ports : List Port) (most : ℕ) (over : Bool) (taken : List ℕ) (made : List Step) (number : ℕ) (reason : Reason) (word : List ℕ) →
+refused_tells : (fault : PlayFault) (ports : List Port) (most : ℕ) (over : Bool) (taken : List ℕ) (made : List Step) (number : ℕ) (reason : Reason)
+    (word : List ℕ) →
     IsRefusedAs fault number reason word → EndIn ports most over taken made (bad_line number reason word) → Tells ports most (Err fault) over taken made
 refused_tells (Stimulus l r w) ports most over taken made number reason word refused ends = λ rest follows.
     ends rest follows
@@ -60,7 +66,8 @@ refused_tells ReadFault ports most over taken made number reason word refused en
 refused_tells WriteFault ports most over taken made number reason word refused ends = absurd refused
 refused_tells NoMemory ports most over taken made number reason word refused ends = absurd refused
 
-refused_writes : (fault : PlayFault) (before after : Option (List ℕ)) (due offered : List ℕ) (number : ℕ) (reason : Reason) (word : List ℕ) → IsRefusedAs fault number reason word → Added before after (due ++ offered) → Writes (Err fault) before after due offered
+refused_writes : (fault : PlayFault) (before after : Option (List ℕ)) (due offered : List ℕ) (number : ℕ) (reason : Reason) (word : List ℕ) →
+    IsRefusedAs fault number reason word → Added before after (due ++ offered) → Writes (Err fault) before after due offered
 refused_writes (Stimulus l r w) before after due offered number reason word refused added = added
 refused_writes ReadFault before after due offered number reason word refused added = absurd refused
 refused_writes WriteFault before after due offered number reason word refused added = absurd refused
@@ -75,8 +82,10 @@ pub record IsRefusing (reader after_reader : Reading) (more : ℕ) (taken : List
   pub refused : IsRefusedAs fault line reason word
   pub stops : (rest : List ℕ) → MayFollow after_reader rest → stimulus_left reader more (taken ++ rest) ≡ stopped line reason word
 
-pub played_to_bad : (meaning : Meaning) (most : ℕ) (start_left before : Option (List ℕ)) (number : ℕ) (reader after_reader : Reading) (held : Held) (left left' after : Option (List ℕ)) (taken : List ℕ) (fault : PlayFault) →
-    IsUnderway meaning most start_left before number reader held left after → Took left left' taken → (SawEnd reader left → SawEnd after_reader left') → IsRefusing reader after_reader (most - number) taken fault →
+pub played_to_bad : (meaning : Meaning) (most : ℕ) (start_left before : Option (List ℕ)) (number : ℕ) (reader after_reader : Reading) (held : Held)
+    (left left' after : Option (List ℕ)) (taken : List ℕ) (fault : PlayFault) →
+    IsUnderway meaning most start_left before number reader held left after → Took left left' taken → (SawEnd reader left → SawEnd after_reader left') →
+    IsRefusing reader after_reader (most - number) taken fault →
     (all : List ℕ) × Took start_left left' all × HasPlayed meaning most (Err fault) all left' held before after
 played_to_bad meaning most start_left before number reader after_reader held left left' after taken fault far took sees bad =
     let all = far.taken ++ taken in
@@ -98,12 +107,14 @@ played_to_bad meaning most start_left before number reader after_reader held lef
         last = far.last;
         run = far.run;
         stands = far.stands;
-        writes = refused_writes fault before after (text_before meaning.ports far.shown) (text_with meaning.ports far.shown far.row) bad.line bad.reason bad.word bad.refused far.added;
+        writes = refused_writes fault before after (text_before meaning.ports far.shown)
+            (text_with meaning.ports far.shown far.row) bad.line bad.reason bad.word bad.refused far.added;
       },
     )
 
 -- one step too many
-pub too_many : (most number : ℕ) (reader after_reader : Reading) (of : StepKind) (taken : List ℕ) (fault : PlayFault) (line : ℕ) → number ≡ most → IsStep reader after_reader of taken → line ≡ after_reader.last → IsRefusedAs fault line TooManySteps [] →
+pub too_many : (most number : ℕ) (reader after_reader : Reading) (of : StepKind) (taken : List ℕ) (fault : PlayFault) (line : ℕ) → number ≡ most →
+    IsStep reader after_reader of taken → line ≡ after_reader.last → IsRefusedAs fault line TooManySteps [] →
     IsRefusing reader after_reader (most - number) taken fault
 too_many most number reader after_reader of taken fault line full step is refused =
     let none : most - number ≡ 0 = omega arith in
@@ -113,18 +124,21 @@ too_many most number reader after_reader of taken fault line full step is refuse
       reason = TooManySteps;
       word = [];
       refused = refused;
-      stops = λ rest follows. ap (λ m. stimulus_left reader m (taken ++ rest)) none ∙ step.none_left rest follows ∙ ap (λ n. stopped n TooManySteps []) (sym is);
+      stops = λ rest follows. ap (λ m. stimulus_left reader m (taken ++ rest)) none ∙ step.none_left rest follows
+          ∙ ap (λ n. stopped n TooManySteps []) (sym is);
     }
 
 full_bad : (bad : BadLine) (line : ℕ) (reason : Reason) (b : Bool) (fault : PlayFault) → bad.line ≡ line → bad.reason ≡ reason → passes_limit reason ≡ b →
-    ((true && not (passes_limit reason)) ≡ true → IsRefusedAs fault line TooManySteps []) → ((true && not (passes_limit reason)) ≡ false → IsRefusedAs fault line reason bad.word) →
+    ((true && not (passes_limit reason)) ≡ true → IsRefusedAs fault line TooManySteps []) →
+    ((true && not (passes_limit reason)) ≡ false → IsRefusedAs fault line reason bad.word) →
     (why : Reason) × (word : List ℕ) × IsRefusedAs fault line why word × (bad_without_steps bad ≡ stopped line why word)
 full_bad bad line reason true fault line_is reason_is limit many one =
     let passes : passes_limit bad.reason ≡ true = ap passes_limit reason_is ∙ limit in (
       reason,
       bad.word,
       one (ap (λ b. true && not b) limit),
-      ap (λ b. if b then stopped bad.line bad.reason bad.word else stopped bad.line TooManySteps []) passes ∙ ap (λ n. stopped n bad.reason bad.word) line_is ∙ ap (λ r. stopped line r bad.word) reason_is,
+      ap (λ b. if b then stopped bad.line bad.reason bad.word else stopped bad.line TooManySteps []) passes ∙ ap (λ n. stopped n bad.reason bad.word) line_is
+          ∙ ap (λ r. stopped line r bad.word) reason_is,
     )
 full_bad bad line reason false fault line_is reason_is limit many one =
     let passes : passes_limit bad.reason ≡ false = ap passes_limit reason_is ∙ limit in (
@@ -138,14 +152,17 @@ less : (m n : ℕ) → m ≤ n → (m ≡ n → ⊥) → m < n
 less m n within apart = ⊎_elim (λ below. below) (λ above. absurd (apart (omega arith))) (cases_lt m n)
 
 -- a bad line, or where no step more is allowed one step too many
-pub at_bad : (most number : ℕ) (reader after_reader : Reading) (taken : List ℕ) (line : ℕ) (reason : Reason) (full : Bool) (fault : PlayFault) → full ≡ (number == most) → number ≤ most → IsBad reader after_reader line reason taken →
-    ((full && not (passes_limit reason)) ≡ true → IsRefusedAs fault line TooManySteps []) → ((full && not (passes_limit reason)) ≡ false → IsRefusedAs fault line reason (word_of after_reader.bad)) →
+pub at_bad : (most number : ℕ) (reader after_reader : Reading) (taken : List ℕ) (line : ℕ) (reason : Reason) (full : Bool) (fault : PlayFault) →
+    full ≡ (number == most) → number ≤ most → IsBad reader after_reader line reason taken →
+    ((full && not (passes_limit reason)) ≡ true → IsRefusedAs fault line TooManySteps []) →
+    ((full && not (passes_limit reason)) ≡ false → IsRefusedAs fault line reason (word_of after_reader.bad)) →
     IsRefusing reader after_reader (most - number) taken fault
 at_bad most number reader after_reader taken line reason true fault is few told many one =
     let at : number ≡ most = eqb-true number most (sym is) in
     let none : most - number ≡ 0 = omega arith in
     let word : word_of after_reader.bad ≡ told.bad.word = ap word_of told.told in
-    let r = full_bad told.bad line reason (passes_limit reason) fault told.line_is told.reason_is refl many (λ limit. subst (λ w. IsRefusedAs fault line reason w) word (one limit)) in
+    let r = full_bad told.bad line reason (passes_limit reason) fault told.line_is told.reason_is refl many
+    (λ limit. subst (λ w. IsRefusedAs fault line reason w) word (one limit)) in
     record {
       ends = told.ends;
       line = line;
@@ -171,17 +188,21 @@ at_bad most number reader after_reader taken line reason false fault is few told
     }
 
 -- the same where the refusal speaks of a line and a reason that are those of the reader
-pub at_bad_so : (most number : ℕ) (reader after_reader : Reading) (taken : List ℕ) (line line' : ℕ) (reason reason' : Reason) (full : Bool) (fault : PlayFault) → line ≡ line' → reason ≡ reason' → full ≡ (number == most) → number ≤ most →
+pub at_bad_so : (most number : ℕ) (reader after_reader : Reading) (taken : List ℕ) (line line' : ℕ) (reason reason' : Reason) (full : Bool)
+    (fault : PlayFault) → line ≡ line' → reason ≡ reason' → full ≡ (number == most) → number ≤ most →
     IsBad reader after_reader line reason taken → ((full && not (passes_limit reason')) ≡ true → IsRefusedAs fault line' TooManySteps []) →
-    ((full && not (passes_limit reason')) ≡ false → IsRefusedAs fault line' reason' (word_of after_reader.bad)) → IsRefusing reader after_reader (most - number) taken fault
+    ((full && not (passes_limit reason')) ≡ false → IsRefusedAs fault line' reason' (word_of after_reader.bad)) →
+    IsRefusing reader after_reader (most - number) taken fault
 at_bad_so most number reader after_reader taken line line' reason reason' full fault same_line same_reason is few told many one =
     at_bad most number reader after_reader taken line' reason' full fault is few
     (subst (λ r. IsBad reader after_reader line' r taken) same_reason (subst (λ n. IsBad reader after_reader n reason taken) same_line told)) many one
 
 -- ---- at a fault
 
-pub played_to_read : (meaning : Meaning) (most : ℕ) (start_left before : Option (List ℕ)) (number : ℕ) (reader after_reader : Reading) (held : Held) (left left' after : Option (List ℕ)) (taken : List ℕ) →
-    IsUnderway meaning most start_left before number reader held left after → Took left left' taken → (SawEnd reader left → SawEnd after_reader left') → IsInterrupted reader after_reader taken →
+pub played_to_read : (meaning : Meaning) (most : ℕ) (start_left before : Option (List ℕ)) (number : ℕ) (reader after_reader : Reading) (held : Held)
+    (left left' after : Option (List ℕ)) (taken : List ℕ) →
+    IsUnderway meaning most start_left before number reader held left after → Took left left' taken → (SawEnd reader left → SawEnd after_reader left') →
+    IsInterrupted reader after_reader taken →
     (all : List ℕ) × Took start_left left' all × HasPlayed meaning most (Err ReadFault) all left' held before after
 played_to_read meaning most start_left before number reader after_reader held left left' after taken far took sees stopped_there = (
   far.taken ++ taken,
@@ -206,7 +227,8 @@ played_to_read meaning most start_left before number reader after_reader held le
   },
 )
 
-pub played_to_write : (meaning : Meaning) (most : ℕ) (start_left before : Option (List ℕ)) (number : ℕ) (reader : Reading) (held : Held) (left written after : Option (List ℕ)) (next : List ℕ) →
+pub played_to_write : (meaning : Meaning) (most : ℕ) (start_left before : Option (List ℕ)) (number : ℕ) (reader : Reading) (held : Held)
+    (left written after : Option (List ℕ)) (next : List ℕ) →
     HasStepped meaning most start_left before number reader held left written next → AddedShort written after (line number meaning.ports next) →
     (all : List ℕ) × Took start_left left all × HasPlayed meaning most (Err WriteFault) all left held before after
 played_to_write meaning most start_left before number reader held left written after next far short = (
@@ -226,15 +248,19 @@ played_to_write meaning most start_left before number reader held left written a
     writes = cut_short (text_with meaning.ports far.shown next) (line number meaning.ports next) far.with_line short;
   },
 ) where
-  cut_short : (offered text : List ℕ) → offered ≡ text → AddedShort written after text → Writes (Err WriteFault) before after (text_before meaning.ports far.shown) offered
-  cut_short offered text is cut = subst (λ (xs : List ℕ). (n : ℕ) × (n < length xs) × Added before after (text_before meaning.ports far.shown ++ take n xs)) (sym is)
+  cut_short : (offered text : List ℕ) → offered ≡ text → AddedShort written after text →
+      Writes (Err WriteFault) before after (text_before meaning.ports far.shown) offered
+  cut_short offered text is cut = subst (λ (xs : List ℕ). (n : ℕ) × (n < length xs) × Added before after (text_before meaning.ports far.shown ++ take n xs))
+      (sym is)
       (cut.0, cut.1, added_both before written after (text_before meaning.ports far.shown) (take cut.0 text) far.written_so cut.2)
 
 -- ---- before the first step
 
 -- the header and the first line were cut short
-pub played_to_first : (meaning : Meaning) (most : ℕ) (ports : List Port) (left before after : Option (List ℕ)) (reader : Reading) (held : Held) (outputs : List ℕ) →
-    ports ≡ meaning.ports → reader ≡ at_front ports → held ≡ held_in meaning.ports (first_state meaning) → length outputs ≡ length (widths_of_class is_output meaning.ports) → meaning.shows held outputs →
+pub played_to_first : (meaning : Meaning) (most : ℕ) (ports : List Port) (left before after : Option (List ℕ)) (reader : Reading) (held : Held)
+    (outputs : List ℕ) →
+    ports ≡ meaning.ports → reader ≡ at_front ports → held ≡ held_in meaning.ports (first_state meaning) →
+    length outputs ≡ length (widths_of_class is_output meaning.ports) → meaning.shows held outputs →
     AddedShort before after (header ports ++ line 0 ports (row_of ports reader.values outputs)) →
     (all : List ℕ) × Took left left all × HasPlayed meaning most (Err WriteFault) all left held before after
 played_to_first meaning most ports left before after reader held outputs same is start each shows short =
@@ -251,7 +277,12 @@ played_to_first meaning most ports left before after reader held outputs same is
         shown = [];
         row = row;
         last = first_state meaning;
-        run = record { row = row; shown = shows_row meaning (first_state meaning) reader.values outputs held (sym start) values each shows; rows_are = refl; last_is = refl };
+        run = record {
+          row = row;
+          shown = shows_row meaning (first_state meaning) reader.values outputs held (sym start) values each shows;
+          rows_are = refl;
+          last_is = refl;
+        };
         stands = sym start;
         writes = subst (λ ps. AddedShort before after (header ps ++ line 0 ps (row_of ps reader.values outputs))) same short;
       },
@@ -274,7 +305,12 @@ played_none meaning most left before held outputs start each shows =
         shown = [];
         row = row;
         last = first_state meaning;
-        run = record { row = row; shown = shows_row meaning (first_state meaning) (first_state meaning).inputs outputs held (sym start) refl each shows; rows_are = refl; last_is = refl };
+        run = record {
+          row = row;
+          shown = shows_row meaning (first_state meaning) (first_state meaning).inputs outputs held (sym start) refl each shows;
+          rows_are = refl;
+          last_is = refl;
+        };
         stands = sym start;
         writes = added_nothing before;
       },
@@ -291,7 +327,10 @@ same_after a b c p q =
       ports = q.ports ∙ p.ports;
       initial = q.initial ∙ p.initial;
       shows = λ held outputs. (λ x. (p.shows held outputs).0 ((q.shows held outputs).0 x), λ x. (q.shows held outputs).1 ((p.shows held outputs).1 x));
-      samples = λ held levels registers. (λ x. (p.samples held levels registers).0 ((q.samples held levels registers).0 x), λ x. (q.samples held levels registers).1 ((p.samples held levels registers).1 x));
+      samples = λ held levels registers. (
+        λ x. (p.samples held levels registers).0 ((q.samples held levels registers).0 x),
+        λ x. (q.samples held levels registers).1 ((p.samples held levels registers).1 x),
+      );
     }
 
 -- where a step leads by the one, it does by the other
@@ -303,7 +342,8 @@ steps_same old new state (Clocks settings) next same leads = (
       ((same.samples (held_in new.ports state) (words_of_class is_clock new.ports next.inputs) next.registers).0 leads.1),
 )
 
-pub makes_same : (old new : Meaning) (ports : List Port) (held : Held) (of : StepKind) (values : List ℕ) (after : Held) → MeansSame old new → Makes new ports held of values after → Makes old ports held of values after
+pub makes_same : (old new : Meaning) (ports : List Port) (held : Held) (of : StepKind) (values : List ℕ) (after : Held) → MeansSame old new →
+    Makes new ports held of values after → Makes old ports held of values after
 makes_same old new ports held of values after same makes state settings holds settable set =
     let next = makes state settings holds settable set in
     (next.0, steps_same old new state (step_of of settings) next.0 same next.1, next.2, next.3)
@@ -312,19 +352,24 @@ makes_same old new ports held of values after same makes state settings holds se
 pub shows_same : (old new : Meaning) (held : Held) (outputs : List ℕ) → MeansSame old new → new.shows held outputs → old.shows held outputs
 shows_same old new held outputs same shows = (same.shows held outputs).0 shows
 
-pub each_same : (old new : Meaning) (outputs : List ℕ) → MeansSame old new → length outputs ≡ length (widths_of_class is_output new.ports) → length outputs ≡ length (widths_of_class is_output old.ports)
+pub each_same : (old new : Meaning) (outputs : List ℕ) → MeansSame old new → length outputs ≡ length (widths_of_class is_output new.ports) →
+    length outputs ≡ length (widths_of_class is_output old.ports)
 each_same old new outputs same each = each ∙ ap (λ ps. length (widths_of_class is_output ps)) same.ports
 
 -- a step was made, by what the bench meant at first
-pub stepped : (start now next : Meaning) (most : ℕ) (start_left before : Option (List ℕ)) (number : ℕ) (reader after : Reading) (old new : Held) (left left' written : Option (List ℕ)) (of : StepKind) (taken outputs : List ℕ) →
-    IsUnderway start most start_left before number reader old left written → MeansSame start now → MeansSame now next → number < most → after.ports ≡ reader.ports → reader.ports ≡ start.ports →
+pub stepped : (start now next : Meaning) (most : ℕ) (start_left before : Option (List ℕ)) (number : ℕ) (reader after : Reading) (old new : Held)
+    (left left' written : Option (List ℕ)) (of : StepKind) (taken outputs : List ℕ) →
+    IsUnderway start most start_left before number reader old left written → MeansSame start now → MeansSame now next → number < most →
+    after.ports ≡ reader.ports → reader.ports ≡ start.ports →
     Took left left' taken → (SawEnd reader left → SawEnd after left') → IsStep reader after of taken → Makes now after.ports old of after.values new →
     length outputs ≡ length (widths_of_class is_output next.ports) → next.shows new outputs →
     HasStepped start most start_left before (number + 1) after new left' written (row_of start.ports after.values outputs)
-stepped start now next most start_left before number reader after old new left left' written of taken outputs far same more room same_ports its_ports took sees step makes each shows =
+stepped start now next most start_left before number reader after old new left left' written of taken outputs far same more room same_ports its_ports took sees
+    step makes each shows =
     let whole = same_after start now next same more in
     has_stepped start most start_left before number reader after old new left left' written of taken outputs far room same_ports its_ports took sees step
-    (makes_same start now after.ports old of after.values new same makes) (each_same start next outputs whole each) (shows_same start next new outputs whole shows)
+    (makes_same start now after.ports old of after.values new same makes) (each_same start next outputs whole each)
+    (shows_same start next new outputs whole shows)
 
 -- it is below the greatest number where it is another
 pub room_left : (number most : ℕ) → number ≤ most → (number ≡ most → ⊥) → number < most

@@ -1,13 +1,13 @@
 -- The row of the ports, put together port by port.
-use Rattle.std.proofs.Common.{◌≡◌, ℕ, zero, suc, ◌+◌, ◌<◌, ◌≤◌, Bool, true, false, List, [], ◌∷◌, ◌++◌, length, map, drop, None, Some, refl, sym, ◌∙◌, ap, subst, append_assoc, arith}
+use Rattle.std.proofs.Common.{◌≡◌, ℕ, zero, suc, ◌+◌, ◌<◌, ◌≤◌, Bool, true, false, List, [], ◌∷◌, ◌++◌, length, map, drop, None, Some, refl, sym, ◌∙◌, ap}
+use Rattle.std.proofs.Common.{append_assoc, arith}
 use Rattle.std.specs.Prelude.{slice_get, slice_index, if◌then◌else◌}
 use Rattle.std.proofs.lemmas.List.{get_or-drop, get_or-map}
 use Rattle.std.proofs.lemmas.Option.{slice_get_within, get_or_from_slice_get}
 use Rattle.bit_ops.specs.declared.value.Bits.{Bits}
 use Rattle.bit_ops.specs.Lists.{words, widths}
-use Rattle.sv_base.specs.declared.face.Class.{Class}
 use Rattle.sv_base.specs.declared.face.Port.{Port}
-use Rattle.sv_base.specs.Classes.{is_output, words_of_class}
+use Rattle.sv_base.specs.Classes.{is_output}
 use Rattle.sv_base.specs.Meaning.{row_of, widths_of_class}
 
 -- ---- the rest of a list
@@ -32,10 +32,13 @@ abbrev pub one_if : Bool → ℕ
 one_if b = if b then 1 else 0
 
 pub row_from : (ports : List Port) (inputs outputs : List ℕ) (i k : ℕ) (p : Port) → slice_get ports i ≡ Some p →
-    row_of (drop i ports) (drop i inputs) (drop k outputs) ≡ (if is_output p.class then slice_index outputs k else slice_index inputs i) ∷ row_of (drop (i + 1) ports) (drop (i + 1) inputs) (drop (k + one_if (is_output p.class)) outputs)
+    row_of (drop i ports) (drop i inputs) (drop k outputs)
+    ≡ (if is_output p.class then slice_index outputs k else slice_index inputs i) ∷ row_of (drop (i + 1) ports) (drop (i + 1) inputs)
+    (drop (k + one_if (is_output p.class)) outputs)
 row_from ports inputs outputs i k p at = ap (λ ps. row_of ps (drop i inputs) (drop k outputs)) (drop_at ports i p at) ∙ by_test (is_output p.class) where
   by_test : (b : Bool) →
-      (if b then slice_index (drop k outputs) 0 ∷ row_of (drop (i + 1) ports) (drop 1 (drop i inputs)) (drop 1 (drop k outputs)) else slice_index (drop i inputs) 0 ∷ row_of (drop (i + 1) ports) (drop 1 (drop i inputs)) (drop k outputs))
+      (if b then slice_index (drop k outputs) 0 ∷ row_of (drop (i + 1) ports) (drop 1 (drop i inputs)) (drop 1 (drop k outputs))
+      else slice_index (drop i inputs) 0 ∷ row_of (drop (i + 1) ports) (drop 1 (drop i inputs)) (drop k outputs))
       ≡ (if b then slice_index outputs k else slice_index inputs i) ∷ row_of (drop (i + 1) ports) (drop (i + 1) inputs) (drop (k + one_if b) outputs)
   by_test true =
       ap (λ w. w ∷ row_of (drop (i + 1) ports) (drop 1 (drop i inputs)) (drop 1 (drop k outputs))) (first_of k outputs)
@@ -48,26 +51,30 @@ row_from ports inputs outputs i k p at = ap (λ ps. row_of ps (drop i inputs) (d
       ∙ sym (ap (λ n. slice_index inputs i ∷ row_of (drop (i + 1) ports) (drop (i + 1) inputs) (drop n outputs)) e)
 
 -- the widths of the outputs that are left, with a port and behind it
-pub outputs_from : (ports : List Port) (i k : ℕ) (p : Port) → slice_get ports i ≡ Some p → drop k (widths_of_class is_output ports) ≡ widths_of_class is_output (drop i ports) →
+pub outputs_from : (ports : List Port) (i k : ℕ) (p : Port) → slice_get ports i ≡ Some p →
+    drop k (widths_of_class is_output ports) ≡ widths_of_class is_output (drop i ports) →
     drop (k + one_if (is_output p.class)) (widths_of_class is_output ports) ≡ widths_of_class is_output (drop (i + 1) ports)
 outputs_from ports i k p at left = by_test (is_output p.class) refl where
   all : List ℕ
   all = widths_of_class is_output ports
 
-  with_port : drop k (widths_of_class is_output ports) ≡ (if is_output p.class then p.width ∷ widths_of_class is_output (drop (i + 1) ports) else widths_of_class is_output (drop (i + 1) ports))
+  with_port : drop k (widths_of_class is_output ports) ≡ (if is_output p.class then p.width ∷ widths_of_class is_output (drop (i + 1) ports)
+      else widths_of_class is_output (drop (i + 1) ports))
   with_port = left ∙ ap (widths_of_class is_output) (drop_at ports i p at)
 
   by_test : (b : Bool) → is_output p.class ≡ b → drop (k + one_if b) (widths_of_class is_output ports) ≡ widths_of_class is_output (drop (i + 1) ports)
   by_test true is =
       sym (drop_once k (widths_of_class is_output ports))
-      ∙ ap (drop 1) (with_port ∙ ap (λ b. if b then p.width ∷ widths_of_class is_output (drop (i + 1) ports) else widths_of_class is_output (drop (i + 1) ports)) is)
+      ∙ ap (drop 1) (with_port ∙ ap (λ b. if b then p.width ∷ widths_of_class is_output (drop (i + 1) ports)
+      else widths_of_class is_output (drop (i + 1) ports)) is)
   by_test false is =
       let e : k + 0 ≡ k = omega arith in
       ap (λ n. drop n (widths_of_class is_output ports)) e
       ∙ with_port ∙ ap (λ b. if b then p.width ∷ widths_of_class is_output (drop (i + 1) ports) else widths_of_class is_output (drop (i + 1) ports)) is
 
 -- the width of an output that comes next
-pub output_next : (ports : List Port) (i k : ℕ) (p : Port) → slice_get ports i ≡ Some p → is_output p.class ≡ true → drop k (widths_of_class is_output ports) ≡ widths_of_class is_output (drop i ports) →
+pub output_next : (ports : List Port) (i k : ℕ) (p : Port) → slice_get ports i ≡ Some p → is_output p.class ≡ true →
+    drop k (widths_of_class is_output ports) ≡ widths_of_class is_output (drop i ports) →
     drop k (widths_of_class is_output ports) ≡ p.width ∷ widths_of_class is_output (drop (i + 1) ports)
 output_next ports i k p at is left =
     left ∙ ap (widths_of_class is_output) (drop_at ports i p at)
@@ -95,11 +102,13 @@ widths-snoc [] b = refl
 widths-snoc (x ∷ xs) b = ap (λ ws. x.width ∷ ws) (widths-snoc xs b)
 
 -- a value more, whose word comes next, goes on with the rest
-pub words_further : (values : List Bits) (b : Bits) (next all : List ℕ) (word : ℕ) → b.word ≡ word → words values ++ (word ∷ next) ≡ all → words (values ++ b ∷ []) ++ next ≡ all
+pub words_further : (values : List Bits) (b : Bits) (next all : List ℕ) (word : ℕ) → b.word ≡ word → words values ++ (word ∷ next) ≡ all →
+    words (values ++ b ∷ []) ++ next ≡ all
 words_further values b next all word is so_far =
     ap (λ ws. ws ++ next) (words-snoc values b) ∙ append_assoc (words values) (b.word ∷ []) next ∙ ap (λ w. words values ++ (w ∷ next)) is ∙ so_far
 
-pub widths_further : (values : List Bits) (b : Bits) (next all : List ℕ) (width : ℕ) → b.width ≡ width → widths values ++ (width ∷ next) ≡ all → widths (values ++ b ∷ []) ++ next ≡ all
+pub widths_further : (values : List Bits) (b : Bits) (next all : List ℕ) (width : ℕ) → b.width ≡ width → widths values ++ (width ∷ next) ≡ all →
+    widths (values ++ b ∷ []) ++ next ≡ all
 widths_further values b next all width is so_far =
     ap (λ ws. ws ++ next) (widths-snoc values b) ∙ append_assoc (widths values) (b.width ∷ []) next ∙ ap (λ w. widths values ++ (w ∷ next)) is ∙ so_far
 
@@ -118,7 +127,8 @@ same_width true x y first second = first refl
 same_width false x y first second = second refl
 
 pub width_at : (ports : List Port) (i : ℕ) (p : Port) → slice_get ports i ≡ Some p → slice_index (map (λ (q : Port). q.width) ports) i ≡ p.width
-width_at ports i p at = get_or-map (λ (q : Port). q.width) ports i p 0 (slice_get_within ports i p at) ∙ ap (λ (q : Port). q.width) (get_or_from_slice_get ports i p p at)
+width_at ports i p at = get_or-map (λ (q : Port). q.width) ports i p 0 (slice_get_within ports i p at)
+    ∙ ap (λ (q : Port). q.width) (get_or_from_slice_get ports i p p at)
 
 -- the output that comes next has the width that stands there
 pub output_width : (all rest : List ℕ) (k width next : ℕ) → drop k all ≡ next ∷ rest → slice_get all k ≡ Some width → width ≡ next

@@ -1,5 +1,5 @@
 -- What a step of a bench makes of a state of which it holds its part.
-use Rattle.std.proofs.Common.{◌≡◌, ℕ, zero, suc, Bool, true, false, List, [], ◌∷◌, None, Some, refl, sym, ◌∙◌, ap, subst}
+use Rattle.std.proofs.Common.{◌≡◌, ℕ, zero, suc, Bool, false, List, [], ◌∷◌, None, Some, refl, sym, ◌∙◌, ap, subst}
 use Rattle.std.specs.Prelude.{slice_get, slice_set, if◌then◌else◌}
 use Rattle.std.specs.List.{AllByRecursion}
 use Rattle.sv_base.specs.declared.face.Class.{Class}
@@ -65,9 +65,11 @@ abbrev pub Leads : Meaning → List Port → State → StepKind → List Setting
 Leads meaning ports state of settings values held =
     (next : State) × StepsTo meaning state (step_of of settings) next × (next.inputs ≡ values) × (held_in ports next ≡ held)
 
-pub data_step : (meaning : Meaning) (ports : List Port) (state : State) (of : StepKind) (settings : List Setting) (values : List ℕ) (old new : Held) → of ≡ kind.Values →
+pub data_step : (meaning : Meaning) (ports : List Port) (state : State) (of : StepKind) (settings : List Setting) (values : List ℕ) (old new : Held) →
+    of ≡ kind.Values →
     held_in ports state ≡ old → AllByRecursion (IsSettable ports of) settings → values ≡ set_all settings state.inputs →
-    new.values ≡ words_of_class is_value ports values → new.levels ≡ old.levels → new.registers ≡ old.registers → Leads meaning ports state of settings values new
+    new.values ≡ words_of_class is_value ports values → new.levels ≡ old.levels → new.registers ≡ old.registers →
+    Leads meaning ports state of settings values new
 data_step meaning ports state of settings values old new is holds settable set values_are levels_are registers_are =
     let next : State = record { inputs = values; registers = state.registers } in
     let here = subst (λ k. AllByRecursion (IsSettable ports k) settings) is settable in
@@ -75,10 +77,12 @@ data_step meaning ports state of settings values old new is holds settable set v
       next,
       subst (λ k. StepsTo meaning state (step_of k settings) next) (sym is) (set, refl),
       refl,
-      same_held (held_in ports next) new (sym values_are) (clocks ∙ ap (λ (h : Held). h.levels) holds ∙ sym levels_are) (ap (λ (h : Held). h.registers) holds ∙ sym registers_are),
+      same_held (held_in ports next) new (sym values_are) (clocks ∙ ap (λ (h : Held). h.levels) holds ∙ sym levels_are)
+          (ap (λ (h : Held). h.registers) holds ∙ sym registers_are),
     )
 
-pub clock_step : (meaning : Meaning) (ports : List Port) (state : State) (of : StepKind) (settings : List Setting) (values levels : List ℕ) (old new : Held) → of ≡ kind.Clocks →
+pub clock_step : (meaning : Meaning) (ports : List Port) (state : State) (of : StepKind) (settings : List Setting) (values levels : List ℕ) (old new : Held) →
+    of ≡ kind.Clocks →
     ports ≡ meaning.ports → held_in ports state ≡ old → AllByRecursion (IsSettable ports of) settings → values ≡ set_all settings state.inputs →
     levels ≡ words_of_class is_clock ports values → new.values ≡ old.values → new.levels ≡ levels → meaning.samples old levels new.registers →
     Leads meaning ports state of settings values new

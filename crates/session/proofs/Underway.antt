@@ -1,8 +1,9 @@
 -- How far a run has come between two lines.
-use Rattle.std.proofs.Common.{◌≡◌, ℕ, suc, ◌+◌, ◌-◌, ◌<◌, ◌≤◌, Bool, true, false, List, [], ◌∷◌, ◌++◌, length, map, Option, None, Some, refl, sym, ◌∙◌, ap, subst, append_assoc, length-append, arith}
+use Rattle.std.proofs.Common.{◌≡◌, ℕ, suc, ◌+◌, ◌-◌, ◌<◌, Bool, true, false, List, [], ◌∷◌, ◌++◌, length, Option, None, Some, refl, sym, ◌∙◌, ap}
+use Rattle.std.proofs.Common.{subst, append_assoc, length-append, arith}
 use Rattle.std.specs.Prelude.{◌==◌, if◌then◌else◌}
 use Rattle.std.specs.List.{AllByRecursion}
-use Rattle.io_edge.specs.Told.{Added, AddedShort, Took, took_both, took_nothing, added_both}
+use Rattle.io_edge.specs.Told.{Added, Took, took_both, took_nothing, added_both}
 use Rattle.sv_base.specs.declared.face.Port.{Port}
 use Rattle.sv_base.specs.declared.face.Class.{Class}
 use Rattle.sv_base.specs.declared.face.Class.TheVariants as class
@@ -10,7 +11,7 @@ use Rattle.sv_base.specs.Classes.{is_input, is_output}
 use Rattle.sv_base.specs.Steps.{Setting, Step, StepFits, IsFitting, values_may_set, clocks_may_set, set_all}
 use Rattle.sv_base.specs.TraceText.{header, line}
 use Rattle.sv_base.specs.Runs.{runs_further}
-use Rattle.sv_base.specs.Meaning.{State, Held, Meaning, MeansSame, held_in, row_of, first_state, widths_of_class, ShowsRow, StepsTo, Plays}
+use Rattle.sv_base.specs.Meaning.{State, Held, Meaning, held_in, row_of, first_state, widths_of_class, ShowsRow, StepsTo, Plays}
 use Rattle.stimulus_reader.specs.declared.step.StepKind.{StepKind}
 use Rattle.stimulus_reader.specs.declared.step.StepKind.TheVariants as kind
 use Rattle.stimulus_reader.specs.declared.reason.Reason.TheVariants.{NoClock}
@@ -21,14 +22,16 @@ use Rattle.session.specs.Playing.{behind_steps, text_before, text_with}
 use Rattle.session.proofs.Texts.{before-snoc, with-snoc}
 
 -- `start_left` and `before` are what the source had left and what was written before the run, `left` and `after` what they are now
-pub record IsUnderway (meaning : Meaning) (most : ℕ) (start_left before : Option (List ℕ)) (number : ℕ) (reader : Reading) (held : Held) (left after : Option (List ℕ)) : Type 0 where
+pub record IsUnderway (meaning : Meaning) (most : ℕ) (start_left before : Option (List ℕ)) (number : ℕ) (reader : Reading) (held : Held)
+    (left after : Option (List ℕ)) : Type 0 where
   pub taken : List ℕ
   pub took : Took start_left left taken
   pub seen : SawEnd reader left
   pub made : List Step
   pub fitting : AllByRecursion (StepFits meaning.ports) made
   pub count : length made ≡ number
-  pub comes : (rest : List ℕ) → MayFollow reader rest → stimulus_of meaning.ports most (taken ++ rest) ≡ behind_steps made (stimulus_left reader (most - number) rest)
+  pub comes : (rest : List ℕ) → MayFollow reader rest → stimulus_of meaning.ports most (taken ++ rest)
+      ≡ behind_steps made (stimulus_left reader (most - number) rest)
   pub shown : List (List ℕ)
   pub rows_count : length shown ≡ number
   pub row : List ℕ
@@ -41,7 +44,8 @@ pub record IsUnderway (meaning : Meaning) (most : ℕ) (start_left before : Opti
 -- ---- before the first step
 
 -- what a bench shows that holds its part of a state
-pub shows_row : (meaning : Meaning) (state : State) (values outputs : List ℕ) (held : Held) → held_in meaning.ports state ≡ held → values ≡ state.inputs → length outputs ≡ length (widths_of_class is_output meaning.ports) → meaning.shows held outputs →
+pub shows_row : (meaning : Meaning) (state : State) (values outputs : List ℕ) (held : Held) → held_in meaning.ports state ≡ held → values ≡ state.inputs →
+    length outputs ≡ length (widths_of_class is_output meaning.ports) → meaning.shows held outputs →
     ShowsRow meaning state (row_of meaning.ports values outputs)
 shows_row meaning state values outputs held stands is each shows =
     record {
@@ -51,8 +55,10 @@ shows_row meaning state values outputs held stands is each shows =
       row_is = ap (λ ins. row_of meaning.ports ins outputs) is;
     }
 
-pub underway_first : (meaning : Meaning) (most : ℕ) (ports : List Port) (left before after : Option (List ℕ)) (reader : Reading) (held : Held) (outputs : List ℕ) →
-    ports ≡ meaning.ports → reader ≡ at_front ports → held ≡ held_in meaning.ports (first_state meaning) → length outputs ≡ length (widths_of_class is_output meaning.ports) → meaning.shows held outputs →
+pub underway_first : (meaning : Meaning) (most : ℕ) (ports : List Port) (left before after : Option (List ℕ)) (reader : Reading) (held : Held)
+    (outputs : List ℕ) →
+    ports ≡ meaning.ports → reader ≡ at_front ports → held ≡ held_in meaning.ports (first_state meaning) →
+    length outputs ≡ length (widths_of_class is_output meaning.ports) → meaning.shows held outputs →
     Added before after (header ports ++ line 0 ports (row_of ports reader.values outputs)) → IsUnderway meaning most left before 0 reader held left after
 underway_first meaning most ports left before after reader held outputs same is start each shows added =
     let front : reader ≡ at_front meaning.ports = is ∙ ap at_front same in
@@ -70,7 +76,12 @@ underway_first meaning most ports left before after reader held outputs same is 
       rows_count = refl;
       row = row_of meaning.ports reader.values outputs;
       last = first_state meaning;
-      run = record { row = row_of meaning.ports reader.values outputs; shown = shows_row meaning (first_state meaning) reader.values outputs held (sym start) values each shows; rows_are = refl; last_is = refl };
+      run = record {
+        row = row_of meaning.ports reader.values outputs;
+        shown = shows_row meaning (first_state meaning) reader.values outputs held (sym start) values each shows;
+        rows_are = refl;
+        last_is = refl;
+      };
       inputs = values;
       stands = sym start;
       added = subst (λ ps. Added before after (header ps ++ line 0 ps (row_of ps reader.values outputs))) same added;
@@ -101,7 +112,8 @@ settable_may kind.Clocks class.Clock width input fits = refl
 settable_may kind.Clocks class.Idle width input fits = if_one (width == 1) fits
 settable_may kind.Clocks class.Output width input fits = absurd (cc)
 
-fit_each : (ports : List Port) (of : StepKind) (settings : List Setting) → AllByRecursion (IsSettable ports of) settings → AllByRecursion (IsFitting (may_set of) ports) settings
+fit_each : (ports : List Port) (of : StepKind) (settings : List Setting) → AllByRecursion (IsSettable ports of) settings →
+    AllByRecursion (IsFitting (may_set of) ports) settings
 fit_each ports of [] settable = tt
 fit_each ports of (s ∷ settings) settable = (
   record {
@@ -121,14 +133,16 @@ behind_one : (made : List Step) (step : Step) (later : stimulus.Stimulus) → be
 behind_one made step later = ap (λ steps. record { steps = steps; bad = later.bad }) (sym (append_assoc made (step ∷ []) later.steps))
 
 -- what has come of a step before its line is offered: all but the line
-pub record HasStepped (meaning : Meaning) (most : ℕ) (start_left before : Option (List ℕ)) (number : ℕ) (reader : Reading) (held : Held) (left written : Option (List ℕ)) (next : List ℕ) : Type 0 where
+pub record HasStepped (meaning : Meaning) (most : ℕ) (start_left before : Option (List ℕ)) (number : ℕ) (reader : Reading) (held : Held)
+    (left written : Option (List ℕ)) (next : List ℕ) : Type 0 where
   pub taken : List ℕ
   pub took : Took start_left left taken
   pub seen : SawEnd reader left
   pub made : List Step
   pub fitting : AllByRecursion (StepFits meaning.ports) made
   pub count : length made ≡ number
-  pub comes : (rest : List ℕ) → MayFollow reader rest → stimulus_of meaning.ports most (taken ++ rest) ≡ behind_steps made (stimulus_left reader (most - number) rest)
+  pub comes : (rest : List ℕ) → MayFollow reader rest → stimulus_of meaning.ports most (taken ++ rest)
+      ≡ behind_steps made (stimulus_left reader (most - number) rest)
   pub shown : List (List ℕ)
   pub rows_count : length shown ≡ number
   pub last : State
@@ -141,15 +155,18 @@ pub record HasStepped (meaning : Meaning) (most : ℕ) (start_left before : Opti
 -- a state to which the step leads, whose inputs are these and of which the bench holds this
 abbrev pub Makes : Meaning → List Port → Held → StepKind → List ℕ → Held → Type 0
 Makes meaning ports old of values new =
-    (state : State) (settings : List Setting) → held_in ports state ≡ old → AllByRecursion (IsSettable ports of) settings → values ≡ set_all settings state.inputs →
+    (state : State) (settings : List Setting) → held_in ports state ≡ old → AllByRecursion (IsSettable ports of) settings →
+    values ≡ set_all settings state.inputs →
     (next : State) × StepsTo meaning state (step_of of settings) next × (next.inputs ≡ values) × (held_in ports next ≡ new)
 
-pub has_stepped : (meaning : Meaning) (most : ℕ) (start_left before : Option (List ℕ)) (number : ℕ) (reader after : Reading) (old new : Held) (left left' written : Option (List ℕ)) (of : StepKind) (taken outputs : List ℕ) →
+pub has_stepped : (meaning : Meaning) (most : ℕ) (start_left before : Option (List ℕ)) (number : ℕ) (reader after : Reading) (old new : Held)
+    (left left' written : Option (List ℕ)) (of : StepKind) (taken outputs : List ℕ) →
     IsUnderway meaning most start_left before number reader old left written → number < most → after.ports ≡ reader.ports → reader.ports ≡ meaning.ports →
     Took left left' taken → (SawEnd reader left → SawEnd after left') → IsStep reader after of taken → Makes meaning after.ports old of after.values new →
     length outputs ≡ length (widths_of_class is_output meaning.ports) → meaning.shows new outputs →
     HasStepped meaning most start_left before (number + 1) after new left' written (row_of meaning.ports after.values outputs)
-has_stepped meaning most start_left before number reader after old new left left' written of taken outputs far room same_ports its_ports took sees step makes each shows =
+has_stepped meaning most start_left before number reader after old new left left' written of taken outputs far room same_ports its_ports took sees step makes
+    each shows =
     let ports = same_ports ∙ its_ports in
     let made_by = subst (λ ps. Makes meaning ps old of after.values new) ports makes in
     let settable = subst (λ ps. AllByRecursion (IsSettable ps of) step.settings) its_ports step.settable in
@@ -173,7 +190,8 @@ has_stepped meaning most start_left before number reader after old new left left
       shown = far.shown ++ far.row ∷ [];
       rows_count = length-append far.shown (far.row ∷ []) ∙ ap (λ n. n + 1) far.rows_count;
       last = next.0;
-      run = runs_further (ShowsRow meaning) (StepsTo meaning) (first_state meaning) far.made (far.shown ++ far.row ∷ []) far.last far.run the_step next.0 next.1 row
+      run = runs_further (ShowsRow meaning) (StepsTo meaning) (first_state meaning) far.made
+          (far.shown ++ far.row ∷ []) far.last far.run the_step next.0 next.1 row
           (shows_row meaning next.0 after.values outputs new next.3 (sym next.2) each shows);
       inputs = sym next.2;
       stands = next.3;
@@ -182,8 +200,10 @@ has_stepped meaning most start_left before number reader after old new left left
     }
 
 -- and then its line is written
-pub underway_next : (meaning : Meaning) (most : ℕ) (start_left before : Option (List ℕ)) (number : ℕ) (reader : Reading) (held : Held) (left written after : Option (List ℕ)) (next : List ℕ) →
-    HasStepped meaning most start_left before number reader held left written next → Added written after (line number meaning.ports next) → IsUnderway meaning most start_left before number reader held left after
+pub underway_next : (meaning : Meaning) (most : ℕ) (start_left before : Option (List ℕ)) (number : ℕ) (reader : Reading) (held : Held)
+    (left written after : Option (List ℕ)) (next : List ℕ) →
+    HasStepped meaning most start_left before number reader held left written next → Added written after (line number meaning.ports next) →
+    IsUnderway meaning most start_left before number reader held left after
 underway_next meaning most start_left before number reader held left written after next far added =
     record {
       taken = far.taken;
@@ -200,5 +220,6 @@ underway_next meaning most start_left before number reader held left written aft
       run = far.run;
       inputs = far.inputs;
       stands = far.stands;
-      added = added_both before written after (text_before meaning.ports far.shown) (text_with meaning.ports far.shown next) far.written_so (subst (λ text. Added written after text) (sym far.with_line) added);
+      added = added_both before written after (text_before meaning.ports far.shown) (text_with meaning.ports far.shown next) far.written_so
+          (subst (λ text. Added written after text) (sym far.with_line) added);
     }

@@ -8,6 +8,8 @@ pub mod playing;
 mod refusing;
 mod showing;
 mod stepping;
+#[cfg(test)]
+mod untold_tests;
 
 pub use fault::PlayFault;
 pub use playing::play;

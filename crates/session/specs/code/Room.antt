@@ -1,5 +1,5 @@
 -- The room of the buffers of a run.
-use Rattle.std.specs.Prelude.{ℕ, ◌≤◌, List, length, map}
+use Rattle.std.specs.Prelude.{◌≤◌, List, length, map}
 use Rattle.std.specs.Vec.{vec_capacity}
 use Rattle.sv_base.specs.declared.face.Port.{Port}
 use Rattle.trace_writer.specs.Room.{line_room}

@@ -15,7 +15,8 @@ invariant-steps g l = record {
   ground : g.S.Source.same_ground l.fn.source l.source;
   source_later : g.S.Source.faults l.fn.source ≤ g.S.Source.faults l.source;
   out_later : g.K.Sink.faults l.fn.out ≤ g.K.Sink.faults l.out;
-  underway : IsUnderway (g.B.Bench.meaning l.fn.bench) l.max_steps (g.S.Source.left l.fn.source) (g.K.Sink.written l.fn.out) l.number l.reader (g.B.Bench.held l.bench) (g.S.Source.left l.source) (g.K.Sink.written l.out);
+  underway : IsUnderway (g.B.Bench.meaning l.fn.bench) l.max_steps (g.S.Source.left l.fn.source) (g.K.Sink.written l.fn.out) l.number l.reader
+      (g.B.Bench.held l.bench) (g.S.Source.left l.source) (g.K.Sink.written l.out);
 }
 
 abbrev pub decreases-steps : goal.decreases-steps

@@ -1,12 +1,12 @@
 use Rattle.std.proofs.Common.{◌≡◌, ◌+◌, ◌++◌, drop, Some, length, map, slice_index, ◌≤◌, ◌∷◌, refl, sym, ap, subst, ◌∙◌, arith}
 use Rattle.std.specs.Prelude.{slice_get, if◌then◌else◌}
 use Rattle.std.proofs.lemmas.Option.{slice_get_read, get_or_from_slice_get}
-use Rattle.std.proofs.lemmas.List.{get_or-map}
 use Rattle.bit_ops.specs.Lists.{words, widths}
 use Rattle.sv_base.specs.declared.face.Port.{Port}
 use Rattle.sv_base.specs.Classes.{is_output}
 use Rattle.sv_base.specs.Meaning.{row_of, widths_of_class}
-use Rattle.session.proofs.Rows.{row_from, outputs_from, words_further, widths_further, chosen, drop_at, one_if_small, width_at, same_width, output_next, output_width}
+use Rattle.session.proofs.Rows.{row_from, outputs_from, words_further, widths_further, chosen, drop_at, one_if_small, width_at, same_width, output_next}
+use Rattle.session.proofs.Rows.{output_width}
 use Rattle.session.proofs.showing.collect_values.Goals as goal
 
 pub outputs_with-outputs-requires : goal.outputs_with-outputs-requires

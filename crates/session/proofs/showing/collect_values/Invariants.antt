@@ -1,4 +1,4 @@
-use Rattle.std.proofs.Common.{◌≡◌, ◌≤◌, ◌++◌, length, map, drop, vec_len, vec_capacity}
+use Rattle.std.proofs.Common.{◌≡◌, ◌≤◌, ◌++◌, map, drop, vec_len, vec_capacity}
 use Rattle.bit_ops.specs.Lists.{words, widths}
 use Rattle.sv_base.specs.declared.face.Port.{Port}
 use Rattle.sv_base.specs.Classes.{is_output}
