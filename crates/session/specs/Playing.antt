@@ -75,7 +75,8 @@ Writes (Err NoMemory) before after due offered = Added before after []
 
 -- How far a bench has come by an answer, by what the bench means: `taken` was taken from the source, which has then `left`, the
 -- bench holds `held`, and what was written changed from `before` to `after`.
-pub record HasPlayed (meaning : Meaning) (most : ℕ) (answer : Result ℕ PlayFault) (taken : List ℕ) (left : Option (List ℕ)) (held : Held) (before after : Option (List ℕ)) : Type 0 where
+pub record HasPlayed (meaning : Meaning) (most : ℕ) (answer : Result ℕ PlayFault) (taken : List ℕ)
+    (left : Option (List ℕ)) (held : Held) (before after : Option (List ℕ)) : Type 0 where
   -- whether the end of the source was seen; then nothing is left, where that is told
   pub over : Bool
   pub seen : over ≡ true → IsAtEnd left

@@ -1,6 +1,6 @@
 //! Playing.
 
-ghost use Rattle.std.specs.Prelude.{◌≡◌, ◌≤◌, List, ℕ, IfOk, IfErr};
+ghost use Rattle.std.specs.Prelude.{◌≡◌, ◌≤◌, List, ℕ, IfErr};
 ghost use Rattle.io_edge.specs.Told.{Took};
 ghost use Rattle.sv_base.specs.Meaning.{MeansSame, first_state, held_in};
 ghost use Rattle.session.specs.Playing.{ArePlayable, HasPlayed, IsPlayCause, IsUntouched};
@@ -33,17 +33,21 @@ pub fn play<B: Bench, S: Source, K: Sink>(
 ) -> Result<u64, PlayFault>
     requires face { face.now.ports ≡ (B.meaning bench.old).ports }
     requires ports { ArePlayable face.now.ports }
-    requires start { B.held bench.old ≡ held_in (B.meaning bench.old).ports (first_state (B.meaning bench.old)) }
+    requires start { B.held bench.old
+        ≡ held_in (B.meaning bench.old).ports (first_state (B.meaning bench.old)) }
     requires room { max_steps ≤ B.room bench.old }
     requires few { max_steps ≤ STEP_LIMIT }
-    // What was taken from the source, told or not, which steps that were, what was written of their trace, and where the
-    // bench stands.
+    // What was taken from the source, told or not, which steps that were, what was written of their trace, and where
+    // the bench stands.
     ensures played { (taken : List ℕ) × Took (S.left source.old) (S.left source.new) taken
-        × HasPlayed (B.meaning bench.old) max_steps result taken (S.left source.new) (B.held bench.new) (K.written out.old) (K.written out.new) }
+        × HasPlayed (B.meaning bench.old) max_steps result taken
+        (S.left source.new) (B.held bench.new) (K.written out.old) (K.written out.new) }
     ensures same { MeansSame (B.meaning bench.old) (B.meaning bench.new) }
     // causes
-    ensures cause { IfErr result (λ fault. IsPlayCause fault (S.faults source.old) (S.faults source.new) (K.faults out.old) (K.faults out.new)) }
-    ensures memory { IfErr result (λ fault. IsUntouched fault ((source.new ≡ source.old) × (out.new ≡ out.old) × (bench.new ≡ bench.old))) }
+    ensures cause { IfErr result (λ fault. IsPlayCause fault
+        (S.faults source.old) (S.faults source.new) (K.faults out.old) (K.faults out.new)) }
+    ensures memory { IfErr result (λ fault. IsUntouched fault
+        ((source.new ≡ source.old) × (out.new ≡ out.old) × (bench.new ≡ bench.old))) }
     ensures ground { S.same_ground source.old source.new }
     ensures source_later { S.faults source.old ≤ S.faults source.new }
     ensures out_later { K.faults out.old ≤ K.faults out.new }

@@ -1,6 +1,6 @@
 //! The line at which a run is refused.
 
-ghost use Rattle.std.specs.Prelude.{◌≡◌, Bool, true, false, ◌&&◌, not, [], if◌then◌else◌};
+ghost use Rattle.std.specs.Prelude.{◌≡◌, true, false, ◌&&◌, not, []};
 ghost use Rattle.stimulus_reader.specs.declared.reason.Reason.TheVariants.{TooManySteps};
 ghost use Rattle.stimulus_reader.specs.Reading.{passes_limit, word_of};
 ghost use Rattle.session.specs.Playing.{IsRefusedAs};
@@ -30,8 +30,10 @@ fn passes_limit(reason: Reason) -> bool
 /// The line of this number is bad for this reason; where no step more is allowed, it is one step too many, unless it
 /// passes a limit of bytes. Takes no memory.
 pub fn refuse(alloc: Global, reader: StepReader, line: u64, reason: Reason, full: bool) -> PlayFault
-    ensures many { (full && not (passes_limit reason)) ≡ true → IsRefusedAs result line TooManySteps [] }
-    ensures bad { (full && not (passes_limit reason)) ≡ false → IsRefusedAs result line reason (word_of reader.bad) }
+    ensures many { (full && not (passes_limit reason)) ≡ true
+        → IsRefusedAs result line TooManySteps [] }
+    ensures bad { (full && not (passes_limit reason)) ≡ false
+        → IsRefusedAs result line reason (word_of reader.bad) }
 {
     if full && !passes_limit(reason) {
         return too_many(alloc, line);

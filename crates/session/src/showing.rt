@@ -6,7 +6,7 @@ ghost use Rattle.bit_ops.specs.Lists.{words, widths};
 ghost use Rattle.io_edge.specs.Fault.{Rose};
 ghost use Rattle.io_edge.specs.Told.{Added, AddedShort};
 ghost use Rattle.sv_base.specs.TraceText.{header, line};
-ghost use Rattle.sv_base.specs.Classes.{is_input, is_output};
+ghost use Rattle.sv_base.specs.Classes.{is_output};
 ghost use Rattle.sv_base.specs.Meaning.{row_of, widths_of_class};
 ghost use Rattle.stimulus_reader.specs.Reading.{IsInputAt};
 ghost use Rattle.session.specs.code.Room.{HasRoom};
@@ -41,10 +41,13 @@ fn port_value<B: Bench>(
     requires input { is_output class ≡ false → IsInputAt reader.now.ports place }
     requires output { is_output class ≡ true → outputs < length (B.outputs bench.now) }
     ensures word { is_output class ≡ false → result.word ≡ slice_index reader.now.values place }
-    ensures width { is_output class ≡ false → result.width ≡ slice_index (map (λ p. p.width) reader.now.ports) place }
-    ensures shown { is_output class ≡ true → slice_get (B.outputs bench.now) outputs ≡ Some result.word }
+    ensures width { is_output class ≡ false →
+        result.width ≡ slice_index (map (λ p. p.width) reader.now.ports) place }
+    ensures shown { is_output class ≡ true →
+        slice_get (B.outputs bench.now) outputs ≡ Some result.word }
     ensures shown_width { is_output class ≡ true →
-        slice_get (widths_of_class is_output (B.meaning bench.now).ports) outputs ≡ Some result.width }
+        slice_get (widths_of_class is_output (B.meaning bench.now).ports) outputs
+        ≡ Some result.width }
 {
     match class {
         Class::Output => bench.out(outputs),
@@ -57,7 +60,8 @@ fn collect_values<B: Bench>(bench: &B, reader: &StepReader, ports: &[Port], valu
     requires ports { ports.now ≡ (B.meaning bench.now).ports }
     requires reader { reader.now.ports ≡ ports.now }
     requires room { length ports.now ≤ vec_capacity values.old }
-    ensures words { words values.new.items ≡ row_of ports.now reader.now.values (B.outputs bench.now) }
+    ensures words { words values.new.items
+        ≡ row_of ports.now reader.now.values (B.outputs bench.now) }
     ensures widths { widths values.new.items ≡ map (λ p. p.width) ports.now }
     ensures room { vec_capacity values.new ≡ vec_capacity values.old }
 {
@@ -109,9 +113,11 @@ pub fn begin<B: Bench, K: Sink>(
     requires reader { reader.now.ports ≡ ports.now }
     requires room { HasRoom ports.now buffers.old }
     ensures whole { OnOk result (Added (K.written out.old) (K.written out.new)
-        (header ports.now ++ line 0 ports.now (row_of ports.now reader.now.values (B.outputs bench.now)))) }
+        (header ports.now
+        ++ line 0 ports.now (row_of ports.now reader.now.values (B.outputs bench.now)))) }
     ensures short { OnErr result (AddedShort (K.written out.old) (K.written out.new)
-        (header ports.now ++ line 0 ports.now (row_of ports.now reader.now.values (B.outputs bench.now)))) }
+        (header ports.now
+        ++ line 0 ports.now (row_of ports.now reader.now.values (B.outputs bench.now)))) }
     ensures room { HasRoom ports.now buffers.new }
     ensures failed { OnErr result (Rose (K.faults out.old) (K.faults out.new)) }
     ensures later { K.faults out.old ≤ K.faults out.new }

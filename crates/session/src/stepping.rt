@@ -16,8 +16,10 @@ pub fn make_step<B: Bench>(kind: StepKind, reader: &StepReader, bench: &mut B)
     requires reader { reader.now.ports ≡ (B.meaning bench.old).ports }
     requires room { 0 < B.room bench.old }
     ensures same { MeansSame (B.meaning bench.old) (B.meaning bench.new) }
-    ensures step { (state : State) (settings : List Setting) → held_in reader.now.ports state ≡ B.held bench.old →
-        AllByRecursion (IsSettable reader.now.ports kind) settings → reader.now.values ≡ set_all settings state.inputs →
+    ensures step { (state : State) (settings : List Setting) →
+        held_in reader.now.ports state ≡ B.held bench.old →
+        AllByRecursion (IsSettable reader.now.ports kind) settings →
+        reader.now.values ≡ set_all settings state.inputs →
         (next : State) × StepsTo (B.meaning bench.old) state (step_of kind settings) next
         × (next.inputs ≡ reader.now.values) × (held_in reader.now.ports next ≡ B.held bench.new) }
     ensures room { B.room bench.old ≤ B.room bench.new + 1 }

@@ -68,7 +68,8 @@ impl Bench for UntoldBench<'_> {
       samples = λ _ _ _. ⊤;
     } };
 
-    ghost held = { λ bench. record { values = bench.input.word ∷ []; levels = []; registers = [] } };
+    ghost held = { λ bench.
+        record { values = bench.input.word ∷ []; levels = []; registers = [] } };
 
     ghost outputs = { λ bench. (if bench.input.word == 0 then 1 else 0) ∷ [] };
 
