@@ -16,9 +16,9 @@ use Rattle.lib_create.specs.declared.tree.Module.{Module}
 use Rattle.lib_create.specs.Command.{Sim, Misuse, meaning_of}
 use Rattle.lib_create.specs.Design.{design_of}
 use Rattle.lib_create.specs.Outcome.{Verdict, Done, Misused, SourceAbsent, SourceRefused, StimulusAbsent, Bad, status_of, message_of, verdict_of_bad, step_limit, IsSource, EndsWithStimulus, EndsWithSource, EndsWithWords, Ends, Outcome, IsOutcome}
-use Rattle.lib_create.specs.Running.{IsPlayCause}
+use Rattle.lib_create.specs.code.Running.{IsPlayCause}
 use Rattle.lib_create.specs.Answer.{read_fault, write_fault, no_memory, Answered, HasCome, CutShort, NothingDue, InTrace, OfOutcome, OfWrite, OfRead, OfMemory, CutMessage, IsGood}
-use Rattle.lib_create.specs.Telling.{ToldAs, stop_status, stop_text}
+use Rattle.lib_create.specs.code.Telling.{ToldAs, stop_status, stop_text}
 use Rattle.lib_create.proofs.Ending.{OneSource}
 
 -- what holds for all files holds for those that a folder tells

@@ -15,7 +15,7 @@ use Rattle.expr_parser.specs.declared.fault.ParseFault.TheVariants as parse
 use Rattle.module_parser.specs.Outcome as parser
 use Rattle.net_ir.specs.declared.design.Spec.{Spec}
 use Rattle.net_ir.specs.Plain.{IsPlain}
-use Rattle.lib_create.specs.Loading.{IsLoaded}
+use Rattle.lib_create.specs.code.Loading.{IsLoaded}
 use Rattle.lib_create.specs.declared.load.Loaded.{Loaded}
 use Rattle.lib_create.specs.declared.load.Loaded.TheVariants.{Bytes}
 use Rattle.lib_create.specs.declared.stop.Stop.{Stop}
@@ -24,11 +24,11 @@ use Rattle.lib_create.specs.declared.fault.SourceFault.TheVariants.{Refused, NoM
 use Rattle.lib_create.specs.declared.compile.Compiled.{Compiled}
 use Rattle.lib_create.specs.declared.compile.Compiled.TheVariants.{Design}
 use Rattle.lib_create.specs.declared.tree.Module.{Module}
-use Rattle.lib_create.specs.Faults.{IfRefused, lexed, parsed}
+use Rattle.lib_create.specs.code.Faults.{IfRefused, lexed, parsed}
 use Rattle.lib_create.specs.PlainForm.{plain_source}
 use Rattle.lib_create.specs.Design.{design_of, namings_of, first_bad_name, module_limit, first_repeat, has_module, too_many_modules, IsIllegal, TooManyModules, BadName, NotPlain}
-use Rattle.lib_create.specs.Elaborating.{IsFlaw}
-use Rattle.lib_create.specs.Compiling.{IsCompiled, IsFit, HaveDesign, HasDesign}
+use Rattle.lib_create.specs.code.Elaborating.{IsFlaw}
+use Rattle.lib_create.specs.code.Compiling.{IsCompiled, IsFit, HaveDesign, HasDesign}
 use Rattle.lib_create.specs.Outcome.{source_limit, IsRefused, NoTokens, NoModules, NoDesign}
 use Rattle.lib_create.proofs.Walking.{left_more}
 use Rattle.lib_create.proofs.Names.{ports_distinct}

@@ -12,8 +12,8 @@ use Rattle.lib_create.specs.declared.fault.SourceFault.{SourceFault}
 use Rattle.lib_create.specs.declared.fault.SourceFault.TheVariants.{Refused, NoMemory}
 use Rattle.lib_create.specs.declared.tree.Module.{Module}
 use Rattle.lib_create.specs.Design.{design_of, namings_of, first_bad_name, not_plain}
-use Rattle.lib_create.specs.Faults.{IfRefused}
-use Rattle.lib_create.specs.Elaborating.{module_at, IsFlaw}
+use Rattle.lib_create.specs.code.Faults.{IfRefused}
+use Rattle.lib_create.specs.code.Elaborating.{module_at, IsFlaw}
 use Rattle.lib_create.proofs.Told.{told, module_told}
 use Rattle.lib_create.proofs.Plain.{initial_values, whole_drivers}
 

@@ -10,7 +10,7 @@ use Rattle.lib_create.specs.declared.tree.Assignment.{Assignment}
 use Rattle.lib_create.specs.declared.plain_form.FormFault.{FormFault}
 use Rattle.lib_create.specs.declared.plain_form.FormFault.TheVariants.{Other, NoMemory}
 use Rattle.lib_create.specs.PlainForm.{◌>>=◌, each, joined, plain_statement_layer, no_case, plain_statement}
-use Rattle.lib_create.specs.Forming.{IsForm, Adds}
+use Rattle.lib_create.specs.code.Forming.{IsForm, Adds}
 use Rattle.lib_create.proofs.Walking.{left_more}
 
 -- what was found so far, and what the rest is

@@ -14,7 +14,7 @@ use Rattle.net_ir.specs.declared.design.Role.{Role}
 use Rattle.net_ir.specs.declared.design.Var.{Var}
 use Rattle.sv_ast.specs.declared.expression.Id.{Id}
 use Rattle.lib_create.specs.Design.{number_of, var_of}
-use Rattle.lib_create.specs.Elaborating.{names_in, number_in, AreNumbers}
+use Rattle.lib_create.specs.code.Elaborating.{names_in, number_in, AreNumbers}
 
 -- ---- the first place, with one item more
 

@@ -11,8 +11,8 @@ use Rattle.lib_create.specs.declared.fault.SourceFault.TheVariants.{Refused, NoM
 use Rattle.lib_create.specs.declared.tree.Assignment.{Assignment}
 use Rattle.lib_create.specs.declared.tree.PortDeclaration.{PortDeclaration}
 use Rattle.lib_create.specs.Design.{role_of}
-use Rattle.lib_create.specs.Faults.{IfRefused}
-use Rattle.lib_create.specs.Elaborating.{◌>>=◌, walk, declare_at, port_at, statement_at, body_at}
+use Rattle.lib_create.specs.code.Faults.{IfRefused}
+use Rattle.lib_create.specs.code.Elaborating.{◌>>=◌, walk, declare_at, port_at, statement_at, body_at}
 
 pub body_done : (names : List (List ℕ)) (assignments : List Assignment) (parts : List Stmt) → walk (statement_at names) [] assignments ≡ Ok parts → body_at names assignments ≡ Ok (statement.Block parts)
 unfolding body_at

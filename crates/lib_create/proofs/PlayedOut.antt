@@ -27,7 +27,7 @@ use Rattle.session.specs.declared.fault.PlayFault.TheVariants as fault
 use Rattle.session.specs.Playing.{Tells, Writes, HasPlayed, bad_line, behind_steps, text_before, text_with}
 use Rattle.lib_create.specs.Outcome.{Verdict, Done, StimulusAbsent, Bad, step_limit, verdict_of_bad, EndsWithStimulus}
 use Rattle.lib_create.specs.Answer.{HasCome}
-use Rattle.lib_create.specs.Running.{TellsOf, PlayedOver}
+use Rattle.lib_create.specs.code.Running.{TellsOf, PlayedOver}
 
 -- ---- over a source that tells its bytes
 

@@ -9,8 +9,8 @@ use Rattle.net_ir.specs.declared.design.Var.{Var}
 use Rattle.lib_create.specs.declared.fault.SourceFault.{SourceFault}
 use Rattle.lib_create.specs.declared.fault.SourceFault.TheVariants.{Refused, NoMemory}
 use Rattle.lib_create.specs.Design.{var_of, Declares, first_bad_name, module_naming, first_repeat}
-use Rattle.lib_create.specs.Faults.{IfRefused}
-use Rattle.lib_create.specs.Elaborating.{names_in, walk, module_name_at}
+use Rattle.lib_create.specs.code.Faults.{IfRefused}
+use Rattle.lib_create.specs.code.Elaborating.{names_in, walk, module_name_at}
 use Rattle.lib_create.proofs.Told.{told, bad_both, told_bind, declared_told}
 use Rattle.lib_create.proofs.Elaborated.{told_ok, told_err}
 use Rattle.lib_create.proofs.Walking.{walk_here, walk_end}

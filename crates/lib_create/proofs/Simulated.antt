@@ -10,7 +10,7 @@ use Rattle.net_ir.specs.declared.design.Spec.{Spec}
 use Rattle.lib_create.specs.declared.compile.Compiled.{Compiled}
 use Rattle.lib_create.specs.declared.compile.Compiled.TheVariants.{Absent, Refused, Design}
 use Rattle.lib_create.specs.Command.{Sim, meaning_of}
-use Rattle.lib_create.specs.Compiling.{IsCompiled}
+use Rattle.lib_create.specs.code.Compiling.{IsCompiled}
 use Rattle.lib_create.specs.Design.{design_of}
 use Rattle.lib_create.specs.Outcome.{Verdict, SourceAbsent, SourceRefused, EndsWithStimulus, EndsWithSource, EndsWithWords, Ends}
 use Rattle.lib_create.specs.Answer.{HasCome, CutShort, NothingDue, InTrace}

@@ -31,7 +31,7 @@ use Rattle.lib_create.specs.declared.tree.Item.{Item}
 use Rattle.lib_create.specs.declared.tree.Item.TheVariants as item
 use Rattle.lib_create.specs.declared.tree.Module.{Module}
 use Rattle.lib_create.specs.Design.{number_of, role_of, var_of, port_var, inner_var, negation, combination, term_of_layer, term_of, target_of, statement_of, body_of, trigger_of, item_declares, item_drivers, design_of, Naming, Declares, Uses, names_of_layer, expression_names, assignment_names, item_names, namings_of, refused_by, is_declared, first_bad_name}
-use Rattle.lib_create.specs.Elaborating.{◌>>=◌, names_in, walk, number_at, unless, declare_at, port_at, expression_layer_at, expression_at, target_at, statement_at, body_at, assign_at, trigger_at, process_at, item_at, module_at}
+use Rattle.lib_create.specs.code.Elaborating.{◌>>=◌, names_in, walk, number_at, unless, declare_at, port_at, expression_layer_at, expression_at, target_at, statement_at, body_at, assign_at, trigger_at, process_at, item_at, module_at}
 use Rattle.lib_create.proofs.Naming.{number_from, number_stays}
 use Rattle.lib_create.proofs.Walking.{walk_here, walk_end}
 

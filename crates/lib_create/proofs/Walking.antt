@@ -4,8 +4,8 @@ use Rattle.std.specs.Prelude.{Result, Ok, Err}
 use Rattle.sv_base.specs.declared.refusal.Refusal.{Refusal}
 use Rattle.lib_create.specs.declared.fault.SourceFault.{SourceFault}
 use Rattle.lib_create.specs.declared.fault.SourceFault.TheVariants.{Refused, NoMemory}
-use Rattle.lib_create.specs.Faults.{IfRefused}
-use Rattle.lib_create.specs.Elaborating.{◌>>=◌, walk}
+use Rattle.lib_create.specs.code.Faults.{IfRefused}
+use Rattle.lib_create.specs.code.Elaborating.{◌>>=◌, walk}
 
 -- what is left of a list, from its next item on
 pub left_more : {X : Type 0} (xs : List X) (i : ℕ) (x : X) → i < length xs → x ≡ get_or xs i x → drop i xs ≡ x ∷ drop (i + 1) xs

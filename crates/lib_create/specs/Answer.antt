@@ -2,6 +2,7 @@
 use Rattle.std.specs.Prelude.{◌≡◌, ℕ, List, ◌++◌, [], ◌∷◌, codes, Option, None, Some, Ok, unwrap_or}
 use Rattle.std.specs.FinMap.{get}
 use Rattle.io_edge.specs.File.{Files}
+use Rattle.io_edge.specs.Fault.{Rose}
 use Rattle.io_edge.specs.Told.{Added, AddedFront}
 use Rattle.sv_base.specs.Steps.{Step}
 use Rattle.net_ir.specs.declared.design.Spec.{Spec}
@@ -61,6 +62,13 @@ pub record CutMessage (files : Files) (words : List (List ℕ)) (write_failed re
   pub message : List ℕ
   pub due : IsDue files words write_failed read_failed message
   pub added : AddedFront before after message
+
+-- no count of faults rose, of reads and of writes of the folder, of the writes to standard output and of those to standard error
+pub record HasNoFault (reads_before reads_now files_before files_now out_before out_now err_before err_now : ℕ) : Type 0 where
+  pub reads : Rose reads_before reads_now → ⊥
+  pub files : Rose files_before files_now → ⊥
+  pub out : Rose out_before out_now → ⊥
+  pub err : Rose err_before err_now → ⊥
 
 -- the words are the command's, the source is legal, and the stimulus is there and has no bad line
 pub record IsGood (files : Files) (words : List (List ℕ)) : Type 0 where

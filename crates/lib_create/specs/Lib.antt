@@ -1,14 +1,6 @@
 pub mod Command
 pub mod PlainForm
-pub mod Forming
 pub mod Design
-pub mod Elaborating
 pub mod Outcome
 pub mod Answer
-pub mod Faults
-pub mod Running
-pub mod CommandWords
-pub mod Loading
-pub mod Verdicts
-pub mod Compiling
-pub mod Telling
+pub mod code

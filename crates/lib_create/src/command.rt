@@ -4,7 +4,7 @@ ghost use Rattle.std.specs.Prelude.{◌≡◌, map, option_map};
 ghost use Rattle.std.specs.List.{find};
 ghost use Rattle.std.specs.String.{string_bytes};
 ghost use Rattle.lib_create.specs.Command.{is_option, sim_of, command_of, meaning_of};
-ghost use Rattle.lib_create.specs.CommandWords.{said};
+ghost use Rattle.lib_create.specs.code.CommandWords.{said};
 
 use sv_base::spelling::is_free_name;
 

@@ -3,11 +3,11 @@
 ghost use Rattle.std.specs.Prelude.{◌≡◌, ◌≤◌, length, Some, IfOk, IfErr, IfSome};
 ghost use Rattle.std.specs.FinMap.{get};
 ghost use Rattle.lib_create.specs.declared.stop.Stop.TheVariants.{NoMemory};
-ghost use Rattle.lib_create.specs.Compiling.{IsCompiled, IsFit, HasDesign, HaveDesign};
-ghost use Rattle.lib_create.specs.Running.{IsReadCause};
+ghost use Rattle.lib_create.specs.code.Compiling.{IsCompiled, IsFit, HasDesign, HaveDesign};
+ghost use Rattle.lib_create.specs.code.Running.{IsReadCause};
 ghost use Rattle.lib_create.specs.Outcome.{source_limit, source_too_long, IsRefused};
 ghost use Rattle.lib_create.specs.Design.{IsIllegal};
-ghost use Rattle.lib_create.specs.Faults.{IfRefused};
+ghost use Rattle.lib_create.specs.code.Faults.{IfRefused};
 
 use crate::command::Sim;
 use crate::elaboration::{elaborate, not_plain};

@@ -4,8 +4,8 @@ ghost use Rattle.std.specs.Prelude.{◌≡◌, [], None, IfOk, IfErr};
 ghost use Rattle.net_ir.specs.declared.term.Term.{Apply};
 ghost use Rattle.net_ir.specs.Plain.{IsPlain};
 ghost use Rattle.lib_create.specs.Design.{number_of, zero_bit, role_of, var_of, operation_of, negation, combination, refused_by, unknown_top, not_plain, design_of, namings_of, first_bad_name};
-ghost use Rattle.lib_create.specs.Faults.{IfRefused};
-ghost use Rattle.lib_create.specs.Elaborating.{names_in, AreNumbers, Gives, walk, number_at, declare_at, port_at, expression_at, target_at, statement_at, body_at, assign_at, trigger_at, process_at, item_at, module_at, IsFlaw};
+ghost use Rattle.lib_create.specs.code.Faults.{IfRefused};
+ghost use Rattle.lib_create.specs.code.Elaborating.{names_in, AreNumbers, Gives, walk, number_at, declare_at, port_at, expression_at, target_at, statement_at, body_at, assign_at, trigger_at, process_at, item_at, module_at, IsFlaw};
 
 use crate::fault::SourceFault;
 use crate::tree::{
@@ -179,7 +179,7 @@ struct Found<'a> {
     drivers: Vec<Driver>,
 }
 
-#[tactic(auto, unfolding(crate::specs::Elaborating::module_at))]
+#[tactic(auto, unfolding(crate::specs::code::Elaborating::module_at))]
 fn module(alloc: Global, tree: &Module) -> Result<Found<'_>, SourceFault>
     ensures { Gives (λ found. (found.scope.vars.items, found.drivers.items)) result (module_at tree.now) }
 {
@@ -211,7 +211,7 @@ fn items<'a>(alloc: Global, scope: Scope<'a>, items: &'a [Item]) -> Result<Found
 }
 
 /// The variables and drivers with those of one more item.
-#[tactic(auto, unfolding(crate::specs::Elaborating::item_at))]
+#[tactic(auto, unfolding(crate::specs::code::Elaborating::item_at))]
 fn item<'a>(alloc: Global, found: Found<'a>, item: &'a Item) -> Result<Found<'a>, SourceFault>
     ensures { Gives (λ found. (found.scope.vars.items, found.drivers.items)) result (item_at (found.entry.scope.vars.items, found.entry.drivers.items) item.now) }
 {
@@ -233,7 +233,7 @@ fn item<'a>(alloc: Global, found: Found<'a>, item: &'a Item) -> Result<Found<'a>
 }
 
 /// The driver of a continuous assignment.
-#[tactic(auto, unfolding(crate::specs::Elaborating::assign_at))]
+#[tactic(auto, unfolding(crate::specs::code::Elaborating::assign_at))]
 fn assign(alloc: Global, scope: &Scope<'_>, assignment: &Assignment) -> Result<Driver, SourceFault>
     ensures { Gives (λ d. d) result (assign_at (names_in scope.now.vars.items) assignment.now) }
 {
@@ -247,7 +247,7 @@ fn assign(alloc: Global, scope: &Scope<'_>, assignment: &Assignment) -> Result<D
 }
 
 /// The driver of a clocked process.
-#[tactic(auto, unfolding(crate::specs::Elaborating::process_at))]
+#[tactic(auto, unfolding(crate::specs::code::Elaborating::process_at))]
 fn process(alloc: Global, scope: &Scope<'_>, process: &Process) -> Result<Driver, SourceFault>
     ensures { Gives (λ d. d) result (process_at (names_in scope.now.vars.items) process.now) }
 {
@@ -262,7 +262,7 @@ fn process(alloc: Global, scope: &Scope<'_>, process: &Process) -> Result<Driver
 }
 
 /// The rising edge of a clock.
-#[tactic(auto, unfolding(crate::specs::Elaborating::trigger_at))]
+#[tactic(auto, unfolding(crate::specs::code::Elaborating::trigger_at))]
 fn trigger(alloc: Global, scope: &Scope<'_>, clock: &Id) -> Result<Trigger, SourceFault>
     ensures { Gives (λ t. t) result (trigger_at (names_in scope.now.vars.items) clock.now) }
 {
@@ -276,7 +276,7 @@ fn trigger(alloc: Global, scope: &Scope<'_>, clock: &Id) -> Result<Trigger, Sour
 }
 
 /// The assignments of a process as one block.
-#[tactic(auto, unfolding(crate::specs::Elaborating::body_at))]
+#[tactic(auto, unfolding(crate::specs::code::Elaborating::body_at))]
 fn body(alloc: Global, scope: &Scope<'_>, assignments: &[Assignment]) -> Result<Stmt, SourceFault>
     ensures { Gives (λ s. s) result (body_at (names_in scope.now.vars.items) assignments.now) }
 {
@@ -288,7 +288,7 @@ fn body(alloc: Global, scope: &Scope<'_>, assignments: &[Assignment]) -> Result<
 }
 
 /// Adds the statement of one more assignment.
-#[tactic(auto, unfolding(crate::specs::Elaborating::statement_at))]
+#[tactic(auto, unfolding(crate::specs::code::Elaborating::statement_at))]
 fn statement(
     alloc: Global,
     scope: &Scope<'_>,
@@ -307,7 +307,7 @@ fn statement(
     Ok(())
 }
 
-#[tactic(auto, unfolding(crate::specs::Elaborating::target_at))]
+#[tactic(auto, unfolding(crate::specs::code::Elaborating::target_at))]
 fn target(alloc: Global, scope: &Scope<'_>, name: &Id) -> Result<Target, SourceFault>
     ensures { Gives (λ t. t) result (target_at (names_in scope.now.vars.items) name.now) }
 {

@@ -37,7 +37,7 @@ impl<T: Drop> From<AllocFailed<T>> for SourceFault {
 
 impl From<LexFault> for SourceFault {
     ghost use Rattle.std.specs.Prelude.{◌≡◌};
-    ghost use Rattle.lib_create.specs.Faults.{lexed};
+    ghost use Rattle.lib_create.specs.code.Faults.{lexed};
 
     ghost from_gives = { λ error fault. fault ≡ lexed error };
 
@@ -51,7 +51,7 @@ impl From<LexFault> for SourceFault {
 
 impl From<ParseFault> for SourceFault {
     ghost use Rattle.std.specs.Prelude.{◌≡◌};
-    ghost use Rattle.lib_create.specs.Faults.{parsed};
+    ghost use Rattle.lib_create.specs.code.Faults.{parsed};
 
     ghost from_gives = { λ error fault. fault ≡ parsed error };
 

@@ -3,7 +3,7 @@
 ghost use Rattle.std.specs.Prelude.{◌≡◌, ◌≤◌, ◌^◌, ◌<◌, ⊤, IfOk, IfSome, IsErrOf};
 ghost use Rattle.std.specs.FinMap.{get};
 ghost use Rattle.io_edge.specs.Fault.{Rose};
-ghost use Rattle.lib_create.specs.Loading.{IsLoaded, IsWithin};
+ghost use Rattle.lib_create.specs.code.Loading.{IsLoaded, IsWithin};
 ghost use Rattle.lib_create.specs.declared.stop.Stop.TheVariants.{ReadFault, WriteFault};
 
 use crate::stop::Stop;

@@ -3,7 +3,7 @@
 ghost use Rattle.std.specs.Prelude.{◌≡◌, ◌≤◌, [], true, length, Some, None, IfOk, IfErr, OnOk};
 ghost use Rattle.std.specs.Str.{bytes_eq};
 ghost use Rattle.lib_create.specs.Design.{module_limit, first_repeat, has_module, too_many_modules, IsIllegal};
-ghost use Rattle.lib_create.specs.Faults.{IfRefused};
+ghost use Rattle.lib_create.specs.code.Faults.{IfRefused};
 
 use crate::elaboration::{Scope, unknown_top};
 use crate::fault::SourceFault;

@@ -4,7 +4,7 @@ ghost use Rattle.std.specs.Prelude.{◌≡◌, IfOk};
 ghost use Rattle.std.specs.Str.{bytes_eq};
 ghost use Rattle.lib_create.specs.declared.tree.Expression.TheVariants as tree;
 ghost use Rattle.lib_create.specs.PlainForm as spec;
-ghost use Rattle.lib_create.specs.Forming.{IsForm, Adds};
+ghost use Rattle.lib_create.specs.code.Forming.{IsForm, Adds};
 
 use crate::tree::{
     Assignment, Declaration, Direction, Expression, Item, Module, Operator, PortDeclaration,

@@ -11,8 +11,8 @@ ghost use Rattle.net_ir.specs.Face.{ports_of};
 ghost use Rattle.net_ir.specs.Plain.{IsPlain};
 ghost use Rattle.session.specs.Playing as played;
 ghost use Rattle.session.specs.Playing.{ArePlayable};
-ghost use Rattle.lib_create.specs.Verdicts.{verdict_seen};
-ghost use Rattle.lib_create.specs.Running.{IsReadCause, IsPlayCause, PlayedOver};
+ghost use Rattle.lib_create.specs.code.Verdicts.{verdict_seen};
+ghost use Rattle.lib_create.specs.code.Running.{IsReadCause, IsPlayCause, PlayedOver};
 ghost use Rattle.lib_create.specs.Outcome.{step_limit, EndsWithStimulus};
 ghost use Rattle.lib_create.specs.Answer.{HasCome};
 

@@ -6,10 +6,9 @@ ghost use Rattle.io_edge.specs.Fault.{Rose};
 ghost use Rattle.io_edge.specs.Told.{Added};
 ghost use Rattle.model_stage.specs.Order.{Picks};
 ghost use Rattle.lib_create.specs.Outcome.{status_of, message_of};
-ghost use Rattle.lib_create.specs.Verdicts.{verdict_seen};
-ghost use Rattle.lib_create.specs.Running.{HasNoFault};
-ghost use Rattle.lib_create.specs.Telling.{ToldAs, stop_status, stop_text};
-ghost use Rattle.lib_create.specs.Answer.{read_fault, write_fault, no_memory, Answered, CutShort, CutMessage, IsGood};
+ghost use Rattle.lib_create.specs.code.Verdicts.{verdict_seen};
+ghost use Rattle.lib_create.specs.code.Telling.{ToldAs, stop_status, stop_text};
+ghost use Rattle.lib_create.specs.Answer.{read_fault, write_fault, no_memory, Answered, CutShort, CutMessage, HasNoFault, IsGood};
 
 use crate::law;
 use crate::simulate::simulate;

@@ -3,8 +3,8 @@
 ghost use Rattle.std.specs.Prelude.{◌≡◌, ◌≤◌, ℕ, List, map, IfOk, IfErr, IfSome, OnErr};
 ghost use Rattle.std.specs.String.{string_bytes};
 ghost use Rattle.io_edge.specs.Told.{Added};
-ghost use Rattle.lib_create.specs.Verdicts.{verdict_seen};
-ghost use Rattle.lib_create.specs.Running.{IsPlayCause};
+ghost use Rattle.lib_create.specs.code.Verdicts.{verdict_seen};
+ghost use Rattle.lib_create.specs.code.Running.{IsPlayCause};
 ghost use Rattle.lib_create.specs.Outcome.{Ends};
 ghost use Rattle.lib_create.specs.Answer.{CutShort};
 

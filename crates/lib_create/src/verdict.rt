@@ -4,8 +4,8 @@ ghost use Rattle.std.specs.Prelude.{◌≡◌, ◌++◌, ◌∷◌, [], codes, I
 ghost use Rattle.std.specs.Fmt.{decimal};
 ghost use Rattle.stimulus_reader.specs.Stimulus.{reason_text};
 ghost use Rattle.lib_create.specs.Outcome.{file_text, name_text, refusal_text, misuse_text, message_of, status_of};
-ghost use Rattle.lib_create.specs.CommandWords.{misuse_seen};
-ghost use Rattle.lib_create.specs.Verdicts.{bad_seen, verdict_seen};
+ghost use Rattle.lib_create.specs.code.CommandWords.{misuse_seen};
+ghost use Rattle.lib_create.specs.code.Verdicts.{bad_seen, verdict_seen};
 
 use crate::command::Misuse;
 use std::alloc::{AllocError, Global};

@@ -1,5 +1,5 @@
 use Rattle.std.proofs.Common.{◌≡◌, [], drop}
-use Rattle.lib_create.specs.Elaborating.{names_in, walk, statement_at}
+use Rattle.lib_create.specs.code.Elaborating.{names_in, walk, statement_at}
 use Rattle.lib_create.proofs.elaboration.body.Given as goal
 
 -- the assignments that are left give what all do

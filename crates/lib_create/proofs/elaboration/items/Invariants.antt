@@ -1,5 +1,5 @@
 use Rattle.std.proofs.Common.{◌≡◌, [], drop}
-use Rattle.lib_create.specs.Elaborating.{walk, item_at}
+use Rattle.lib_create.specs.code.Elaborating.{walk, item_at}
 use Rattle.lib_create.proofs.elaboration.items.Given as goal
 
 -- the items that are left give what all do

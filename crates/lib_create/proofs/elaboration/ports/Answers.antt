@@ -1,6 +1,6 @@
 use Rattle.std.proofs.Common.{[]}
 use Rattle.std.proofs.lemmas.Result.{err_from_is_err_and}
-use Rattle.lib_create.specs.Elaborating.{walk, port_at}
+use Rattle.lib_create.specs.code.Elaborating.{walk, port_at}
 use Rattle.lib_create.proofs.Walking.{goes_on, fails, is_done}
 use Rattle.lib_create.proofs.Parts.{port_step, port_fails}
 use Rattle.lib_create.proofs.elaboration.ports.Goals as goal

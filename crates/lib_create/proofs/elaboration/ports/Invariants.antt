@@ -1,5 +1,5 @@
 use Rattle.std.proofs.Common.{◌≡◌, [], drop}
-use Rattle.lib_create.specs.Elaborating.{walk, port_at}
+use Rattle.lib_create.specs.code.Elaborating.{walk, port_at}
 use Rattle.lib_create.proofs.elaboration.ports.Given as goal
 
 -- the ports that are left give what all do

@@ -1,7 +1,7 @@
 use Rattle.std.proofs.Common.{◌≡◌, ◌+◌, ◌-◌, ◌≤◌, length}
 use Rattle.std.specs.Prelude.{IfSome}
 use Rattle.std.specs.FinMap.{get}
-use Rattle.lib_create.specs.Loading.{IsFrontOf}
+use Rattle.lib_create.specs.code.Loading.{IsFrontOf}
 use Rattle.lib_create.proofs.load.load.Given as goal
 
 -- a front of the file was read, and nothing else has changed

@@ -1,6 +1,6 @@
 use Rattle.std.proofs.Common.{[]}
 use Rattle.std.proofs.lemmas.Result.{err_from_is_err_and}
-use Rattle.lib_create.specs.Elaborating.{walk, module_name_at}
+use Rattle.lib_create.specs.code.Elaborating.{walk, module_name_at}
 use Rattle.lib_create.proofs.Walking.{goes_on, fails, is_done}
 use Rattle.lib_create.proofs.Repeats.{all_apart, name_again}
 use Rattle.lib_create.proofs.modules.check_names.Goals as goal

@@ -1,5 +1,5 @@
 use Rattle.std.proofs.Common.{◌≡◌, [], drop}
-use Rattle.lib_create.specs.Elaborating.{walk, module_name_at}
+use Rattle.lib_create.specs.code.Elaborating.{walk, module_name_at}
 use Rattle.lib_create.proofs.modules.check_names.Given as goal
 
 -- the modules that are left give what all do

@@ -2,7 +2,7 @@ use Rattle.std.proofs.Common.{subst}
 use Rattle.std.specs.Prelude.{map, IfSome}
 use Rattle.std.specs.String.{string_bytes}
 use Rattle.io_edge.specs.Fault.{Rose}
-use Rattle.lib_create.specs.Verdicts.{verdict_seen}
+use Rattle.lib_create.specs.code.Verdicts.{verdict_seen}
 use Rattle.lib_create.specs.Answer.{CutShort}
 use Rattle.lib_create.proofs.Answering.{Gave, where_told, stop_message, end_answered, end_cut, end_message, end_complete, succeeded}
 use Rattle.lib_create.proofs.run.run_words.Goals as goal

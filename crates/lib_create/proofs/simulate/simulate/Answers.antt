@@ -1,7 +1,7 @@
 use Rattle.std.specs.Prelude.{map}
 use Rattle.std.specs.String.{string_bytes}
-use Rattle.lib_create.specs.CommandWords.{sim_seen}
-use Rattle.lib_create.specs.Verdicts.{verdict_seen}
+use Rattle.lib_create.specs.code.CommandWords.{sim_seen}
+use Rattle.lib_create.specs.code.Verdicts.{verdict_seen}
 use Rattle.lib_create.proofs.Simulated.{absent_told, refused_told, run_ends_told, run_cut_told}
 use Rattle.lib_create.proofs.simulate.simulate.Goals as goal
 

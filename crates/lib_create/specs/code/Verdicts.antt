@@ -2,7 +2,7 @@
 use Rattle.lib_create.specs.declared.verdict.BadLine as kept_line
 use Rattle.lib_create.specs.declared.verdict.Verdict as kept
 use Rattle.lib_create.specs.declared.verdict.Verdict.TheVariants as ends
-use Rattle.lib_create.specs.CommandWords.{misuse_seen}
+use Rattle.lib_create.specs.code.CommandWords.{misuse_seen}
 use Rattle.stimulus_reader.specs.Stimulus.{BadLine}
 use Rattle.lib_create.specs.Outcome.{Verdict, Done, Misused, SourceAbsent, SourceRefused, StimulusAbsent, Bad}
 

@@ -32,7 +32,7 @@ use Rattle.lib_create.specs.declared.tree.Item.{Item}
 use Rattle.lib_create.specs.declared.tree.Item.TheVariants as item
 use Rattle.lib_create.specs.declared.tree.Module.{Module}
 use Rattle.lib_create.specs.Design.{number_of, role_of, var_of, negation, combination, refused_by, design_of, namings_of, first_bad_name, not_plain}
-use Rattle.lib_create.specs.Faults.{IfRefused}
+use Rattle.lib_create.specs.code.Faults.{IfRefused}
 
 -- ---- names and their numbers
 

@@ -26,13 +26,6 @@ IsPlayCause ReadFault reads_before reads_now writes_before writes_now = Rose rea
 IsPlayCause WriteFault reads_before reads_now writes_before writes_now = Rose writes_before writes_now
 IsPlayCause NoMemory reads_before reads_now writes_before writes_now = ⊤
 
--- no count of faults rose, of reads and of writes of the folder, of the writes to standard output and of those to standard error
-pub record HasNoFault (reads_before reads_now files_before files_now out_before out_now err_before err_now : ℕ) : Type 0 where
-  pub reads : Rose reads_before reads_now → ⊥
-  pub files : Rose files_before files_now → ⊥
-  pub out : Rose out_before out_now → ⊥
-  pub err : Rose err_before err_now → ⊥
-
 -- what an answer says of the stimulus of these bytes, of which these steps were made
 abbrev pub TellsOf : List Port → Result ℕ PlayFault → List ℕ → List Step → Type 0
 TellsOf ports (Ok steps) bytes made = (stimulus_of ports step_limit bytes ≡ record { steps = made; bad = None }) × (steps ≡ length made)

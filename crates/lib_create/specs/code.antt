@@ -1,0 +1,9 @@
+pub mod Forming
+pub mod Elaborating
+pub mod Faults
+pub mod Running
+pub mod CommandWords
+pub mod Loading
+pub mod Verdicts
+pub mod Compiling
+pub mod Telling
