@@ -1,3 +1,4 @@
+pub mod Faults
 pub mod Kind
 pub mod Spelling
 pub mod Steps
@@ -5,3 +6,4 @@ pub mod TraceText
 pub mod Classes
 pub mod Runs
 pub mod Meaning
+pub mod Operators

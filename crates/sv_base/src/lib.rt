@@ -3,14 +3,18 @@
 #![tactic(auto)]
 
 mod face;
+mod fault;
 mod kind;
 mod name;
+mod operator;
 mod refusal;
 mod sequence;
 pub mod spelling;
 
 pub use face::{Class, Face, Port, Summary, WrapperFace};
+pub use fault::Fault;
 pub use kind::Kind;
-pub use name::Name;
+pub use name::{NAME_LIMIT, Name};
+pub use operator::{Binary, Function, Grouping, Level, TIGHTEST, Unary, is_refused_operator};
 pub use refusal::{Place, Refusal};
 pub use sequence::Sequence;

@@ -3,8 +3,11 @@ ghost use Rattle.std.specs.Prelude.{◌≡◌, length, IfOk, IsTrue, ◌↔◌};
 use std::alloc::{AllocError, Global};
 use std::marker::Model;
 
+/// The greatest number of bytes of a name.
+pub const NAME_LIMIT: usize = 255;
+
 /// A spelling of a source, a command line or a message, seen as its bytes. A name of the language has
-/// letters, digits, `_` and `$` (IEEE 1800-2017, 5.6), and at most 255 bytes; this type asks for neither, since
+/// letters, digits, `_` and `$` (IEEE 1800-2017, 5.6), and at most `NAME_LIMIT` bytes; this type asks for neither, since
 /// a refusal also names signs, numbers and nothing at all.
 #[derive(Debug, Drop)]
 pub struct Name {

@@ -1,3 +1,5 @@
+//! What a source is refused for, and where.
+
 use crate::kind::Kind;
 use crate::name::Name;
 

@@ -161,13 +161,15 @@ fn stands_among(words: &[&str], word: &[u8]) -> bool
     words.iter().any(|w| word == w.as_bytes())
 }
 
-fn is_used(word: &[u8]) -> bool
+/// Whether the word is one that the language uses.
+pub fn is_used(word: &[u8]) -> bool
     ensures { result ≡ list_any (bytes_eq word.now) used_words }
 {
     stands_among(&USED_WORDS, word)
 }
 
-fn is_refused(word: &[u8]) -> bool
+/// Whether the word is one of the standard outside the subset.
+pub fn is_refused(word: &[u8]) -> bool
     ensures { result ≡ list_any (bytes_eq word.now) refused_words }
 {
     stands_among(&REFUSED_WORDS, word)
