@@ -1,5 +1,7 @@
 -- The operators and functions of expressions, as tables (IEEE 1800-2017, 11.3).
-use Rattle.std.specs.Prelude.{ℕ, List, [], ◌∷◌, Option, None, Some, Bool, ◌||◌, if◌then◌else◌, codes}
+use Rattle.std.specs.Prelude.{ℕ, List, [], ◌∷◌, Option, Bool, codes}
+use Rattle.std.specs.Map.{lookup}
+use Rattle.std.specs.List.{list_any}
 use Rattle.std.specs.Str.{bytes_eq}
 use Rattle.sv_base.specs.declared.operator.Unary.{Unary}
 use Rattle.sv_base.specs.declared.operator.Unary.TheVariants as unary
@@ -12,10 +14,9 @@ use Rattle.sv_base.specs.declared.operator.Grouping.TheVariants.{ToTheLeft}
 use Rattle.sv_base.specs.declared.operator.Function.{Function}
 use Rattle.sv_base.specs.declared.operator.Function.TheVariants as function
 
--- what stands beside this text in a table
+-- what stands beside this text in a table, where it is there
 abbrev pub row_of : {X : Type 0} → List (List ℕ × X) → List ℕ → Option X
-row_of [] text = None
-row_of ((spelling, x) ∷ rows) text = if bytes_eq text spelling then Some x else row_of rows text
+row_of rows text = lookup (bytes_eq text) rows
 
 -- the operators before an operand, by their spellings (11.4.3, 11.4.7 to 11.4.9)
 abbrev pub unary_rows : List (List ℕ × Unary)
@@ -73,9 +74,13 @@ unary_of text = row_of unary_rows text
 unfoldable pub binary_of : List ℕ → Option Binary
 binary_of text = row_of binary_rows text
 
--- an operator of the standard outside the subset (11.4.5)
+-- the operators of the standard outside the subset (11.4.5)
+abbrev pub refused_operators : List (List ℕ)
+refused_operators = codes "===" ∷ codes "!==" ∷ []
+
+-- one of these
 unfoldable pub is_refused_operator : List ℕ → Bool
-is_refused_operator text = bytes_eq text (codes "===") || bytes_eq text (codes "!==")
+is_refused_operator text = list_any (bytes_eq text) refused_operators
 
 -- the system function that a text names
 unfoldable pub function_of : List ℕ → Option Function

@@ -6,8 +6,8 @@ ghost use Rattle.sv_base.specs.declared.fault.Fault.TheVariants.{NoMemory};
 use crate::refusal::Refusal;
 use std::alloc::{AllocError, AllocFailed};
 
-/// Why a call makes nothing of a source, its tokens or its tree. Each crate that refuses has it under a name of its own, and says which
-/// kinds of refusal it gives.
+/// Why a call makes nothing of a source, its tokens or its tree. Each crate that refuses has it under a name
+/// of its own, and says which kinds of refusal it gives.
 #[derive(Debug, Drop)]
 pub enum Fault {
     /// What was given is refused, at one place.

@@ -7,8 +7,8 @@ use std::marker::Model;
 pub const NAME_LIMIT: usize = 255;
 
 /// A spelling of a source, a command line or a message, seen as its bytes. A name of the language has
-/// letters, digits, `_` and `$` (IEEE 1800-2017, 5.6), and at most `NAME_LIMIT` bytes; this type asks for neither, since
-/// a refusal also names signs, numbers and nothing at all.
+/// letters, digits, `_` and `$` (IEEE 1800-2017, 5.6), and at most `NAME_LIMIT` bytes; this type asks for
+/// neither, since a refusal also names signs, numbers and nothing at all.
 #[derive(Debug, Drop)]
 pub struct Name {
     text: Vec<u8>,

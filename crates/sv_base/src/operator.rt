@@ -1,5 +1,6 @@
-//! The operators and functions of expressions, by their spellings, with the levels and groupings of those between operands
-//! (IEEE 1800-2017, 11.3). The tree of a source keeps the spelling; whatever has to know what it means asks here.
+//! The operators and functions of expressions, by their spellings, with the levels and groupings of those
+//! between operands (IEEE 1800-2017, 11.3). The tree of a source keeps the spelling; whatever has to know
+//! what it means asks here.
 
 ghost use Rattle.std.specs.Prelude.{◌≡◌, ◌≤◌};
 ghost use Rattle.sv_base.specs.Operators as spec;
@@ -99,8 +100,8 @@ pub enum Binary {
     LogicalOr,
 }
 
-/// How tightly operators between operands bind (table 11-2), the loosest first: `? :` binds looser than all of them, a sign before an
-/// operand tighter. So a level in between is one more variant in its place.
+/// How tightly operators between operands bind (table 11-2), the loosest first: `? :` binds looser than all
+/// of them, a sign before an operand tighter. So a level in between is one more variant in its place.
 #[derive(Clone, Copy, Debug, PartialEq, Eq)]
 pub enum Level {
     LogicalOr,

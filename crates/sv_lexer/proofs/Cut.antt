@@ -9,8 +9,8 @@ use Rattle.sv_lexer.specs.Piece.{HasNoForm, FaultOf}
 use Rattle.sv_lexer.specs.Cutting.{Piece, Stands, CutsTo, Fails, refused, no_form, byte_name, IsFaultOf, place_at, kind_of, token_of, tokens_of, ends_of}
 use Rattle.sv_lexer.specs.Scan.{IsFound, IsSoFar, Says, added}
 use Rattle.sv_base.specs.declared.refusal.Place.{Place}
-use Rattle.sv_lexer.specs.declared.token.LexFault.{LexFault}
-use Rattle.sv_lexer.specs.declared.token.LexFault.TheVariants as fault
+use Rattle.sv_base.specs.declared.fault.Fault.{Fault}
+use Rattle.sv_base.specs.declared.fault.Fault.TheVariants as fault
 use Rattle.sv_lexer.specs.declared.form.Form.{Form}
 use Rattle.sv_lexer.specs.declared.token.Token.{Token}
 
@@ -62,7 +62,7 @@ so_far_more file text rest tokens more ends f n so s e =
     }
 
 -- a fault at the rest is the text's
-pub fault_at_rest : (file : ℕ) (text rest : List ℕ) (tokens : List Token) (ends : ℕ) (k : Kind) (name : List ℕ) (place : Place) (f : LexFault) → IsSoFar file text rest tokens ends → Fails rest k name → place ≡ place_at file ends → Says k name place f → IsFaultOf file text f
+pub fault_at_rest : (file : ℕ) (text rest : List ℕ) (tokens : List Token) (ends : ℕ) (k : Kind) (name : List ℕ) (place : Place) (f : Fault) → IsSoFar file text rest tokens ends → Fails rest k name → place ≡ place_at file ends → Says k name place f → IsFaultOf file text f
 fault_at_rest file text rest tokens ends k name place (fault.Refused refusal) so h e says =
     record {
       pieces = so.pieces;

@@ -6,12 +6,13 @@ use Rattle.std.proofs.Math.Numerals.{add-one}
 use Rattle.std.proofs.lemmas.List.{drop-drop, take-append-drop, length-drop, length-take, take_more, take_all, length-take-le, get_or-take, get_or_past}
 use Rattle.std.proofs.lemmas.Bool.{cases_lt}
 use Rattle.std.specs.Char.{is_ascii_digit}
-use Rattle.sv_lexer.specs.Bytes.{Each, Stops, is_blank, is_in_line, is_name_start, is_name_byte, is_decimal_byte, is_digit_of, is_based_byte}
+use Rattle.sv_base.specs.Spelling.{begins_name, continues_name}
+use Rattle.sv_lexer.specs.Bytes.{Each, Stops, is_blank, is_in_line, is_decimal_byte, is_digit_of, is_based_byte}
 use Rattle.sv_lexer.specs.Piece.{HasNoForm, IsDigits, HasNoClose, is_skipped, is_sign}
 use Rattle.sv_lexer.specs.Scan.{lead_of, IsFoundAt, IsNameAt, IsCommentForm, ClosesAt, IsTail, IsTailAt, IsHeadAt, HasNoHead, DigitsStop}
 use Rattle.sv_lexer.proofs.Runs.{clash, head_eq, tail_eq}
 use Rattle.sv_lexer.proofs.Leads.{blank_lead}
-use Rattle.sv_lexer.proofs.Longest.{start_is_name_byte, other_no_form, system_none, directive_none, blank_found, word_found, system_found, sign_found, slash_found, line_found, block_found, open_found, directive_found, other_directive_found}
+use Rattle.sv_lexer.proofs.Longest.{start_continues_name, other_no_form, system_none, directive_none, blank_found, word_found, system_found, sign_found, slash_found, line_found, block_found, open_found, directive_found, other_directive_found}
 use Rattle.sv_lexer.proofs.Numbers.{digit_is_byte, tail_first, tail_found, sized_found, decimal_found, unsized_found, fill_found, quote_none}
 use Rattle.sv_lexer.specs.declared.form.Base.{Base}
 use Rattle.sv_lexer.specs.declared.form.Form.{Form}
@@ -150,9 +151,9 @@ open_at (a ∷ b ∷ s) e h =
 
 -- ---- names, directives, slashes
 
-pub name_at : (n : ℕ) (s : List ℕ) → 0 < length s → is_name_start (get_or s 0 0) ≡ true → n ≤ length s → Each is_name_byte (take n s) → Stops is_name_byte (drop n s) → IsNameAt n s
+pub name_at : (n : ℕ) (s : List ℕ) → 0 < length s → begins_name (get_or s 0 0) ≡ true → n ≤ length s → Each continues_name (take n s) → Stops continues_name (drop n s) → IsNameAt n s
 name_at n [] some h le r st = absurd (omega arith)
-name_at zero (b ∷ s) some h le r st = absurd (clash (is_name_byte b) (start_is_name_byte b h) st)
+name_at zero (b ∷ s) some h le r st = absurd (clash (continues_name b) (start_continues_name b h) st)
 name_at (suc n) (b ∷ s) some h le r st = record { some = omega arith; within = le; is_name = (h, r.1); stops = st }
 
 pub word_at : (n : ℕ) (s : List ℕ) → IsNameAt n s → IsFoundAt (record { form = form.Word; len = n }) s
@@ -167,7 +168,7 @@ system_at n (a ∷ s) e h =
     let w = h.within in
     record { some = omega arith; within = omega arith; is_found = rw (add-one, first) (system_found (take n s) (drop n s) h.is_name h.stops) }
 
-pub system_none_at : (s : List ℕ) → s ≡ 36 ∷ drop 1 s → Stops is_name_start (drop 1 s) → HasNoForm s
+pub system_none_at : (s : List ℕ) → s ≡ 36 ∷ drop 1 s → Stops begins_name (drop 1 s) → HasNoForm s
 system_none_at s e h = rw e (system_none (drop 1 s) h)
 
 pub directive_at : (n m : ℕ) (s : List ℕ) → s ≡ 96 ∷ drop 1 s → IsNameAt n (drop 1 s) → is_skipped (take n (drop 1 s)) ≡ true → m ≤ length (drop n (drop 1 s)) → Each is_in_line (take m (drop n (drop 1 s))) → Stops is_in_line (drop m (drop n (drop 1 s))) → IsFoundAt (record { form = form.Directive; len = n + m + 1 }) s
@@ -176,7 +177,7 @@ directive_at n m (a ∷ s) e h w le r st =
     let first : a ≡ 96 = head_eq e in
     let inside = h.within in
     let size = length-drop n s in
-    let stop : Stops is_name_byte (take m (drop n s) ++ drop m (drop n s)) = rw take-append-drop h.stops in
+    let stop : Stops continues_name (take m (drop n s) ++ drop m (drop n s)) = rw take-append-drop h.stops in
     record {
       some = omega arith;
       within = omega arith;
@@ -190,7 +191,7 @@ other_directive_at n (a ∷ s) e h w =
     let inside = h.within in
     record { some = omega arith; within = omega arith; is_found = rw (add-one, first) (other_directive_found (take n s) (drop n s) h.is_name w h.stops) }
 
-pub directive_none_at : (s : List ℕ) → s ≡ 96 ∷ drop 1 s → Stops is_name_start (drop 1 s) → HasNoForm s
+pub directive_none_at : (s : List ℕ) → s ≡ 96 ∷ drop 1 s → Stops begins_name (drop 1 s) → HasNoForm s
 directive_none_at s e h = rw e (directive_none (drop 1 s) h)
 
 pub second_is : (s : List ℕ) (b : ℕ) → s ≡ 47 ∷ drop 1 s → get_or s 1 0 ≡ b → (b ≡ 0 → ⊥) → s ≡ 47 ∷ b ∷ drop 2 s

@@ -6,7 +6,8 @@ use Rattle.std.specs.Char.{is_ascii_digit}
 use Rattle.std.proofs.lemmas.Bool.{eqb-true, or_cases, and_parts, cond-true, cond-false}
 use Rattle.std.proofs.lemmas.Bool.Decides.{nat_tests}
 use Rattle.std.proofs.lemmas.Slice.Eq.{bytes_eq-Decides}
-use Rattle.sv_lexer.specs.Bytes.{is_blank, is_name_start}
+use Rattle.sv_base.specs.Spelling.{begins_name}
+use Rattle.sv_lexer.specs.Bytes.{is_blank}
 use Rattle.sv_lexer.specs.Piece.{HasForm, IsHead, IsDecimal, signs, is_sign}
 use Rattle.sv_lexer.specs.declared.form.Base.{Base}
 use Rattle.sv_lexer.specs.Scan.{lead_of}
@@ -51,11 +52,11 @@ blank_lead b h =
       ]
     ]
 
-pub letter_lead : (b : ℕ) → is_name_start b ≡ true → lead_of b ≡ Letter
+pub letter_lead : (b : ℕ) → begins_name b ≡ true → lead_of b ≡ Letter
 unfolding lead_of is_sign
 letter_lead b h = cond-true _ _ _ h
 
-pub digit_no_start : (b : ℕ) → is_ascii_digit b ≡ true → is_name_start b ≡ false
+pub digit_no_start : (b : ℕ) → is_ascii_digit b ≡ true → begins_name b ≡ false
 digit_no_start b h = grind (arith, nat_tests)
 
 pub digit_lead : (b : ℕ) → is_ascii_digit b ≡ true → lead_of b ≡ Digit
@@ -79,12 +80,12 @@ unfolding lead_of is_sign
 backquote_lead = refl
 
 -- what each sign of a table passes, a sign passes
-pub sign_passes : (test : List ℕ → Bool) (table : List (List ℕ)) (piece : List ℕ) → list_all test table ≡ true → list_any (λ sign. bytes_eq sign piece) table ≡ true → test piece ≡ true
+pub sign_passes : (test : List ℕ → Bool) (table : List (List ℕ)) (piece : List ℕ) → list_all test table ≡ true → list_any (bytes_eq piece) table ≡ true → test piece ≡ true
 sign_passes test [] piece h k = absurd (cc)
 sign_passes test (s ∷ table) piece h k =
     let parts : (test s ≡ true) × (list_all test table ≡ true) = and_parts (test s) (list_all test table) h in
-    elim (or_cases (bytes_eq s piece) (list_any (λ sign. bytes_eq sign piece) table) k) [
-      | inl e ↦ subst (λ (x : List ℕ). test x ≡ true) ((bytes_eq-Decides s piece).0 e) parts.0
+    elim (or_cases (bytes_eq piece s) (list_any (bytes_eq piece) table) k) [
+      | inl e ↦ subst (λ (x : List ℕ). test x ≡ true) (sym ((bytes_eq-Decides piece s).0 e)) parts.0
       | inr e ↦ sign_passes test table piece parts.1 e
     ]
 
@@ -199,4 +200,4 @@ chain false false false false false false false false x = cc
 -- a byte that leads to signs is one
 pub lead_is_sign : (b : ℕ) → lead_of b ≡ Sign → is_sign (b ∷ []) ≡ true
 unfolding lead_of is_sign
-lead_is_sign b e = chain (is_name_start b) (is_ascii_digit b) (is_blank b) (eqb b 36) (eqb b 39) (eqb b 47) (eqb b 96) (is_sign (b ∷ [])) e
+lead_is_sign b e = chain (begins_name b) (is_ascii_digit b) (is_blank b) (eqb b 36) (eqb b 39) (eqb b 47) (eqb b 96) (is_sign (b ∷ [])) e

@@ -1,4 +1,5 @@
 pub mod Runs
+pub mod Signs
 pub mod Leads
 pub mod Longest
 pub mod Numbers

@@ -9,7 +9,8 @@ use Rattle.std.proofs.lemmas.Bool.Decides.{nat_tests}
 use Rattle.std.proofs.lemmas.Bool.{or_cases, and_parts, false_from_ne_true, cases_eq, leb-true}
 use Rattle.std.proofs.lemmas.List.{append_assoc, length-append, length-take, get_or_append_left}
 use Rattle.std.proofs.Math.Nat.{suc-add}
-use Rattle.sv_lexer.specs.Bytes.{Each, Stops, is_blank, is_in_line, is_name_start, is_name_byte}
+use Rattle.sv_base.specs.Spelling.{begins_name, continues_name}
+use Rattle.sv_lexer.specs.Bytes.{Each, Stops, is_blank, is_in_line}
 use Rattle.sv_lexer.specs.Piece.{HasForm, HasNoForm, IsLongest, IsName, IsComment, HasNoClose, is_skipped, signs, is_sign}
 use Rattle.sv_lexer.specs.Scan.{lead_of, IsFound, IsCommentForm}
 use Rattle.sv_lexer.proofs.Runs.{Each-append, clash, stops_here, Stops-front, runs_agree, head_eq, tail_eq}
@@ -43,31 +44,31 @@ blank_found b rest e h = record { has_form = (b, refl, h); longest = go }
     go form.Blank more after x k = let y = k.1 in cc
     go g more after x k = absurd (elsewhere g b more Blank e refl k)
 
-pub word_found : (b : ℕ) (bs rest : List ℕ) → IsName (b ∷ bs) → Stops is_name_byte rest → IsFound form.Word (b ∷ bs) rest
+pub word_found : (b : ℕ) (bs rest : List ℕ) → IsName (b ∷ bs) → Stops continues_name rest → IsFound form.Word (b ∷ bs) rest
 word_found b bs rest n s = record { has_form = n; longest = go }
   where
     go : IsLongest (b ∷ bs) rest
-    go form.Word more after x k = stops_here is_name_byte rest more after x s (Each-append is_name_byte bs more k.1).1
+    go form.Word more after x k = stops_here continues_name rest more after x s (Each-append continues_name bs more k.1).1
     go g more after x k = absurd (elsewhere g b (bs ++ more) Letter (letter_lead b n.0) refl k)
 
-pub start_is_name_byte : (b : ℕ) → is_name_start b ≡ true → is_name_byte b ≡ true
-start_is_name_byte b h = grind (arith, nat_tests)
+pub start_continues_name : (b : ℕ) → begins_name b ≡ true → continues_name b ≡ true
+start_continues_name b h = grind (arith, nat_tests)
 
 -- a name has only name bytes
-pub name_bytes : (word : List ℕ) → IsName word → Each is_name_byte word
+pub name_bytes : (word : List ℕ) → IsName word → Each continues_name word
 name_bytes [] n = elim n [ ]
-name_bytes (b ∷ bs) n = (start_is_name_byte b n.0, n.1)
+name_bytes (b ∷ bs) n = (start_continues_name b n.0, n.1)
 
-name_front : (xs ys : List ℕ) → (xs ≡ [] → ⊥) → IsName (xs ++ ys) → Each is_name_byte ys
+name_front : (xs ys : List ℕ) → (xs ≡ [] → ⊥) → IsName (xs ++ ys) → Each continues_name ys
 name_front [] ys some n = absurd (some refl)
-name_front (x ∷ xs) ys some n = (Each-append is_name_byte xs ys n.1).1
+name_front (x ∷ xs) ys some n = (Each-append continues_name xs ys n.1).1
 
 -- a name doesn't go on past where it stops
-pub name_stops : (word rest more after : List ℕ) → IsName word → Stops is_name_byte rest → rest ≡ more ++ after → IsName (word ++ more) → more ≡ []
+pub name_stops : (word rest more after : List ℕ) → IsName word → Stops continues_name rest → rest ≡ more ++ after → IsName (word ++ more) → more ≡ []
 name_stops [] rest more after n s e k = absurd n
-name_stops (b ∷ bs) rest more after n s e k = stops_here is_name_byte rest more after e s (Each-append is_name_byte bs more k.1).1
+name_stops (b ∷ bs) rest more after n s e k = stops_here continues_name rest more after e s (Each-append continues_name bs more k.1).1
 
-pub system_found : (word rest : List ℕ) → IsName word → Stops is_name_byte rest → IsFound form.System (36 ∷ word) rest
+pub system_found : (word rest : List ℕ) → IsName word → Stops continues_name rest → IsFound form.System (36 ∷ word) rest
 system_found word rest n s = record { has_form = (word, refl, n); longest = go }
   where
     go : IsLongest (36 ∷ word) rest
@@ -77,11 +78,11 @@ system_found word rest n s = record { has_form = (word, refl, n); longest = go }
     go g more after x k = absurd (elsewhere g 36 (word ++ more) Dollar dollar_lead refl k)
 
 -- no name begins where its first byte can't stand
-pub no_name : (t name after : List ℕ) → Stops is_name_start t → t ≡ name ++ after → IsName name → ⊥
+pub no_name : (t name after : List ℕ) → Stops begins_name t → t ≡ name ++ after → IsName name → ⊥
 no_name t [] after s e n = n
-no_name t (b ∷ bs) after s e n = clash (is_name_start b) n.0 (subst (Stops is_name_start) e s)
+no_name t (b ∷ bs) after s e n = clash (begins_name b) n.0 (subst (Stops begins_name) e s)
 
-pub system_none : (t : List ℕ) → Stops is_name_start t → HasNoForm (36 ∷ t)
+pub system_none : (t : List ℕ) → Stops begins_name t → HasNoForm (36 ∷ t)
 system_none t s = no_form_from 36 t go
   where
     go : (g : Form) (more after : List ℕ) → t ≡ more ++ after → HasForm g (36 ∷ more) → ⊥
@@ -256,10 +257,10 @@ each_test p (x ∷ xs) h = let r = and_parts (p x) (list_all p xs) h in (r.0, ea
 skipped_name : (word : List ℕ) → is_skipped word ≡ true → IsName word
 skipped_name word h =
     elim (or_cases _ (bytes_eq word (codes "resetall")) h) [
-      | inr e ↦ subst IsName (sym ((bytes_eq-Decides word (codes "resetall")).0 e)) (refl, each_test is_name_byte (codes "esetall") refl)
+      | inr e ↦ subst IsName (sym ((bytes_eq-Decides word (codes "resetall")).0 e)) (refl, each_test continues_name (codes "esetall") refl)
       | inl r ↦ elim (or_cases (bytes_eq word (codes "timescale")) (bytes_eq word (codes "default_nettype")) r) [
-        | inl e ↦ subst IsName (sym ((bytes_eq-Decides word (codes "timescale")).0 e)) (refl, each_test is_name_byte (codes "imescale") refl)
-        | inr e ↦ subst IsName (sym ((bytes_eq-Decides word (codes "default_nettype")).0 e)) (refl, each_test is_name_byte (codes "efault_nettype") refl)
+        | inl e ↦ subst IsName (sym ((bytes_eq-Decides word (codes "timescale")).0 e)) (refl, each_test continues_name (codes "imescale") refl)
+        | inr e ↦ subst IsName (sym ((bytes_eq-Decides word (codes "default_nettype")).0 e)) (refl, each_test continues_name (codes "efault_nettype") refl)
       ]
     ]
 
@@ -272,35 +273,35 @@ stops_front : (p : ℕ → Bool) (tail rest more after : List ℕ) → rest ≡ 
 stops_front p tail rest more after e s =
     Stops-front p (tail ++ more) after (subst (Stops p) (ap (λ (r : List ℕ). tail ++ r) e ∙ sym (append_assoc tail more after)) s)
 
-pub directive_found : (word tail rest : List ℕ) → is_skipped word ≡ true → Stops is_name_byte (tail ++ rest) → Each is_in_line tail → Stops is_in_line rest → IsFound form.Directive (96 ∷ word ++ tail) rest
+pub directive_found : (word tail rest : List ℕ) → is_skipped word ≡ true → Stops continues_name (tail ++ rest) → Each is_in_line tail → Stops is_in_line rest → IsFound form.Directive (96 ∷ word ++ tail) rest
 directive_found word tail rest w s l e = record {
-  has_form = (word, tail, refl, w, Stops-front is_name_byte tail rest s, l);
+  has_form = (word, tail, refl, w, Stops-front continues_name tail rest s, l);
   longest = go;
 }
   where
     go : IsLongest (96 ∷ word ++ tail) rest
     go form.Directive more after x k =
         let whole : word ++ (tail ++ more) ≡ k.0 ++ k.1 = sym (append_assoc word tail more) ∙ tail_eq k.2 in
-        let r = runs_agree is_name_byte word k.0 (tail ++ more) k.1 whole (name_bytes word (skipped_name word w)) (name_bytes k.0 (skipped_name k.0 k.3)) (stops_front is_name_byte tail rest more after x s) k.4 in
+        let r = runs_agree continues_name word k.0 (tail ++ more) k.1 whole (name_bytes word (skipped_name word w)) (name_bytes k.0 (skipped_name k.0 k.3)) (stops_front continues_name tail rest more after x s) k.4 in
         stops_here is_in_line rest more after x e (Each-append is_in_line tail more (subst (Each is_in_line) (sym r.1) k.5)).1
     go form.OtherDirective more after x k =
         let whole : word ++ (tail ++ more) ≡ k.0 = sym (append_assoc word tail more) ∙ tail_eq k.1 in
-        let bytes : Each is_name_byte (tail ++ more) = (Each-append is_name_byte word (tail ++ more) (subst (Each is_name_byte) (sym whole) (name_bytes k.0 k.2))).1 in
+        let bytes : Each continues_name (tail ++ more) = (Each-append continues_name word (tail ++ more) (subst (Each continues_name) (sym whole) (name_bytes k.0 k.2))).1 in
         let split : tail ++ rest ≡ (tail ++ more) ++ after = ap (λ (r : List ℕ). tail ++ r) x ∙ sym (append_assoc tail more after) in
-        append_empty tail more (stops_here is_name_byte (tail ++ rest) (tail ++ more) after split s bytes)
+        append_empty tail more (stops_here continues_name (tail ++ rest) (tail ++ more) after split s bytes)
     go g more after x k = absurd (elsewhere g 96 ((word ++ tail) ++ more) Backquote backquote_lead refl k)
 
-pub other_directive_found : (word rest : List ℕ) → IsName word → is_skipped word ≡ false → Stops is_name_byte rest → IsFound form.OtherDirective (96 ∷ word) rest
+pub other_directive_found : (word rest : List ℕ) → IsName word → is_skipped word ≡ false → Stops continues_name rest → IsFound form.OtherDirective (96 ∷ word) rest
 other_directive_found word rest n w s = record { has_form = (word, refl, n, w); longest = go }
   where
     go : IsLongest (96 ∷ word) rest
     go form.Directive more after x k =
-        let r = runs_agree is_name_byte word k.0 more k.1 (tail_eq k.2) (name_bytes word n) (name_bytes k.0 (skipped_name k.0 k.3)) (stops_front is_name_byte [] rest more after x s) k.4 in
+        let r = runs_agree continues_name word k.0 more k.1 (tail_eq k.2) (name_bytes word n) (name_bytes k.0 (skipped_name k.0 k.3)) (stops_front continues_name [] rest more after x s) k.4 in
         absurd (clash (is_skipped word) (subst (λ (v : List ℕ). is_skipped v ≡ true) (sym r.0) k.3) w)
     go form.OtherDirective more after x k = name_stops word rest more after n s x (subst IsName (sym (tail_eq k.1)) k.2)
     go g more after x k = absurd (elsewhere g 96 (word ++ more) Backquote backquote_lead refl k)
 
-pub directive_none : (t : List ℕ) → Stops is_name_start t → HasNoForm (96 ∷ t)
+pub directive_none : (t : List ℕ) → Stops begins_name t → HasNoForm (96 ∷ t)
 directive_none t s = no_form_from 96 t go
   where
     go : (g : Form) (more after : List ℕ) → t ≡ more ++ after → HasForm g (96 ∷ more) → ⊥

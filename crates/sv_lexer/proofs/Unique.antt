@@ -7,8 +7,9 @@ use Rattle.sv_base.specs.declared.kind.Kind.{Kind}
 use Rattle.sv_base.specs.declared.kind.Kind.TheVariants as kind
 use Rattle.sv_base.specs.declared.refusal.Place.{Place}
 use Rattle.sv_base.specs.declared.refusal.Refusal.{Refusal}
-use Rattle.sv_lexer.specs.Bytes.{Each, Stops, is_name_byte, is_decimal_byte}
-use Rattle.sv_lexer.specs.Piece.{HasForm, IsLongest, IsComment, IsMarkText, HasNoClose, IsBased, IsDecimal, base_of, FaultOf, Fault, is_skipped, is_sign, named, based_fault, length_fault}
+use Rattle.sv_base.specs.Spelling.{continues_name}
+use Rattle.sv_lexer.specs.Bytes.{Each, Stops, is_decimal_byte}
+use Rattle.sv_lexer.specs.Piece.{HasForm, IsLongest, IsComment, IsMarkText, HasNoClose, IsBased, IsDecimal, base_of, FaultOf, PieceFault, is_skipped, is_sign, named, based_fault, length_fault}
 use Rattle.sv_lexer.specs.Cutting.{Piece, Stands, CutsTo, Fails, refused, no_form, byte_name, IsTokens, IsRefused, tokens_of, ends_of, place_at}
 use Rattle.sv_lexer.specs.Scan.{lead_of}
 use Rattle.sv_lexer.proofs.Runs.{Each-append, clash, stops_here, runs_agree, head_eq, tail_eq}
@@ -72,8 +73,8 @@ comment_sign c piece (inr h) k = long_sign 42 (c ++ 42 ∷ 47 ∷ []) piece h.0 
 directive_other : (piece : List ℕ) → HasForm form.Directive piece → HasForm form.OtherDirective piece → ⊥
 directive_other piece h k =
     let whole : h.0 ++ h.1 ≡ k.0 = tail_eq (sym h.2 ∙ k.1) in
-    let bytes : Each is_name_byte h.1 = (Each-append is_name_byte h.0 h.1 (subst (Each is_name_byte) (sym whole) (name_bytes k.0 k.2))).1 in
-    let none : h.1 ≡ [] = stops_here is_name_byte h.1 h.1 [] (sym (append-nil h.1)) h.4 bytes in
+    let bytes : Each continues_name h.1 = (Each-append continues_name h.0 h.1 (subst (Each continues_name) (sym whole) (name_bytes k.0 k.2))).1 in
+    let none : h.1 ≡ [] = stops_here continues_name h.1 h.1 [] (sym (append-nil h.1)) h.4 bytes in
     let same : h.0 ≡ k.0 = sym (append-nil h.0) ∙ ap (λ (x : List ℕ). h.0 ++ x) (sym none) ∙ whole in
     clash (is_skipped k.0) (subst (λ (x : List ℕ). is_skipped x ≡ true) same h.3) k.3
 
@@ -153,10 +154,10 @@ one_base piece s t a b d e h k =
     let same = heads_agree a b h.head k.head d e h.head_form k.head_form r.1 in
     ap (λ (x : List ℕ). based_fault x a d) r.0 ∙ ap (λ (x : Base). based_fault t x d) same.0 ∙ ap (λ (x : List ℕ). based_fault t b x) same.2
 
-pub one_fault : (f : Form) (piece : List ℕ) (a b : Fault) → FaultOf f piece a → FaultOf f piece b → a ≡ b
+pub one_fault : (f : Form) (piece : List ℕ) (a b : PieceFault) → FaultOf f piece a → FaultOf f piece b → a ≡ b
 one_fault form.OpenComment piece a b h k = h ∙ sym k
 one_fault form.OtherDirective piece a b h k =
-    h.2 ∙ ap (λ (x : List ℕ). let r : Fault = Some (kind.Unsupported, x) in r) (tail_eq (sym h.1 ∙ k.1)) ∙ sym k.2
+    h.2 ∙ ap (λ (x : List ℕ). let r : PieceFault = Some (kind.Unsupported, x) in r) (tail_eq (sym h.1 ∙ k.1)) ∙ sym k.2
 one_fault form.Word piece a b h k = h ∙ sym k
 one_fault form.System piece a b h k = h.2 ∙ ap length_fault (tail_eq (sym h.1 ∙ k.1)) ∙ sym k.2
 one_fault form.Decimal piece a b h k = h ∙ sym k
@@ -227,7 +228,7 @@ one_list_lem file text a b h k =
     let same = cuts_agree text h.0 k.0 [] [] h.1 k.1 empty_end empty_end in
     h.2 ∙ ap (tokens_of file 0) same.0 ∙ sym k.2
 
-some_fault : (a b : Kind × List ℕ) → ◌≡◌ {A = Fault} (Some a) (Some b) → (a.0 ≡ b.0) × (a.1 ≡ b.1)
+some_fault : (a b : Kind × List ℕ) → ◌≡◌ {A = PieceFault} (Some a) (Some b) → (a.0 ≡ b.0) × (a.1 ≡ b.1)
 some_fault a b e = let z : a ≡ b = cc in (ap (λ (v : Kind × List ℕ). v.0) z, ap (λ (v : Kind × List ℕ). v.1) z)
 
 fails_agree : (text : List ℕ) (j k : Kind) (m n : List ℕ) → Fails text j m → Fails text k n → (j ≡ k) × (m ≡ n)

@@ -1,7 +1,8 @@
 -- classes of bytes, by their ASCII codes
 use Rattle.std.specs.Prelude.{◌≡◌, ℕ, ◌-◌, ◌+◌, ◌*◌, ◌^◌, Bool, true, false, not, ◌||◌, ◌==◌, nat_lt, if◌then◌else◌, List, [], ◌∷◌}
-use Rattle.std.specs.Char.{is_ascii_digit, is_ascii_alphabetic}
+use Rattle.std.specs.Char.{is_ascii_digit}
 use Rattle.std.specs.Int.{is_in_range}
+use Rattle.sv_base.specs.Spelling.{continues_name}
 use Rattle.sv_lexer.specs.declared.run.Class.{Class}
 use Rattle.sv_lexer.specs.declared.run.Class.TheVariants as class
 use Rattle.sv_lexer.specs.declared.form.Base.{Base}
@@ -14,14 +15,6 @@ is_blank b = b == 32 || b == 9 || b == 10 || b == 12 || b == 13
 -- a byte of a line, which is any but LF
 abbrev pub is_in_line : ℕ → Bool
 is_in_line b = not (b == 10)
-
--- a letter or `_`, with which a name begins (5.6)
-abbrev pub is_name_start : ℕ → Bool
-is_name_start b = is_ascii_alphabetic b || b == 95
-
--- a letter, a digit, `_` or `$`, with which it goes on
-abbrev pub is_name_byte : ℕ → Bool
-is_name_byte b = is_ascii_alphabetic b || is_ascii_digit b || b == 95 || b == 36
 
 -- a digit, or the `_` between digits (5.7.1)
 abbrev pub is_decimal_byte : ℕ → Bool
@@ -55,7 +48,7 @@ is_based_byte base b = is_digit_of base b || b == 95
 abbrev pub is_in : Class → ℕ → Bool
 is_in class.Blank b = is_blank b
 is_in class.Line b = is_in_line b
-is_in class.Name b = is_name_byte b
+is_in class.Name b = continues_name b
 is_in class.Decimal b = is_decimal_byte b
 is_in (class.Based base) b = is_based_byte base b
 

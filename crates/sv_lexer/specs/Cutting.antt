@@ -13,8 +13,8 @@ use Rattle.sv_lexer.specs.declared.form.Form.TheVariants as form
 use Rattle.sv_lexer.specs.declared.token.TokenKind.{TokenKind}
 use Rattle.sv_lexer.specs.declared.token.TokenKind.TheVariants as token
 use Rattle.sv_lexer.specs.declared.token.Token.{Token}
-use Rattle.sv_lexer.specs.declared.token.LexFault.{LexFault}
-use Rattle.sv_lexer.specs.declared.token.LexFault.TheVariants as fault
+use Rattle.sv_base.specs.declared.fault.Fault.{Fault}
+use Rattle.sv_base.specs.Faults.{IfRefused}
 
 -- a piece with its form
 abbrev pub Piece : Type 0
@@ -104,6 +104,5 @@ pub record IsRefused (file : ℕ) (text : List ℕ) (refusal : Refusal) : Type 0
   pub place : refusal.place ≡ place_at file (ends_of pieces)
 
 -- a fault is that refusal; memory may run out at any text
-abbrev pub IsFaultOf : ℕ → List ℕ → LexFault → Type 0
-IsFaultOf file text (fault.Refused refusal) = IsRefused file text refusal
-IsFaultOf file text fault.NoMemory = Unit {0}
+abbrev pub IsFaultOf : ℕ → List ℕ → Fault → Type 0
+IsFaultOf file text = IfRefused (IsRefused file text)

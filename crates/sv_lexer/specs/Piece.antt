@@ -1,30 +1,27 @@
 -- what a piece of a text may be
 use Rattle.std.specs.Prelude.{◌≡◌, ◌≢◌, ◌⊎◌, ◌+◌, ◌^◌, ℕ, Bool, true, false, ◌||◌, ◌==◌, nat_lt, nat_le, if◌then◌else◌, List, [], ◌∷◌, ◌++◌, length, slice_index, Option, None, Some, codes}
 use Rattle.std.specs.List.{list_any}
+use Rattle.std.specs.Map.{keys_of}
 use Rattle.std.specs.Char.{is_ascii_digit}
 use Rattle.std.specs.Str.{bytes_eq}
+use Rattle.bit_ops.specs.declared.value.TheConstants.{MAX_WIDTH}
+use Rattle.sv_base.specs.Operators.{unary_rows, binary_rows, refused_operators}
+use Rattle.sv_base.specs.declared.name.TheConstants.{NAME_LIMIT}
 use Rattle.sv_base.specs.declared.kind.Kind.{Kind}
 use Rattle.sv_base.specs.declared.kind.Kind.TheVariants as kind
-use Rattle.sv_lexer.specs.Bytes.{is_blank, is_in_line, is_name_start, is_name_byte, is_decimal_byte, radix, is_unknown, is_digit_of, is_based_byte, Each, Stops, spelled}
+use Rattle.sv_base.specs.Spelling.{begins_name, continues_name}
+use Rattle.sv_lexer.specs.Bytes.{is_blank, is_in_line, is_decimal_byte, radix, is_unknown, is_digit_of, is_based_byte, Each, Stops, spelled}
 use Rattle.sv_lexer.specs.declared.form.Base.{Base}
 use Rattle.sv_lexer.specs.declared.form.Base.TheVariants.{Binary, Octal, Decimal, Hexadecimal}
 use Rattle.sv_lexer.specs.declared.form.Form.{Form}
 use Rattle.sv_lexer.specs.declared.form.Form.TheVariants as form
-
--- the greatest width of a value in bits
-abbrev pub greatest_width : ℕ
-greatest_width = 64
-
--- the greatest number of bytes of a name
-abbrev pub longest_name : ℕ
-longest_name = 255
 
 -- ---- names and comments
 
 -- a letter or `_`, then letters, digits, `_` and `$` (5.6)
 abbrev pub IsName : List ℕ → Type 0
 IsName [] = ⊥
-IsName (b ∷ bs) = (is_name_start b ≡ true) × Each is_name_byte bs
+IsName (b ∷ bs) = (begins_name b ≡ true) × Each continues_name bs
 
 -- no `*` has a `/` after it
 abbrev pub HasNoClose : List ℕ → Type 0
@@ -95,12 +92,12 @@ has_unknown digits = list_any is_unknown digits
 -- no digit, an unknown one, or a value that no word holds
 abbrev pub has_bad_digits : Base → List ℕ → Bool
 has_bad_digits base [] = true
-has_bad_digits base (d ∷ ds) = has_unknown (d ∷ ds) || nat_le (2 ^ greatest_width) (spelled (radix base) (d ∷ ds))
+has_bad_digits base (d ∷ ds) = has_unknown (d ∷ ds) || nat_le (2 ^ MAX_WIDTH) (spelled (radix base) (d ∷ ds))
 
 -- a size of 1 to the greatest width; the value is cut to it
 abbrev pub size_fault : List ℕ → Option Kind
 size_fault size =
-    if spelled 10 size == 0 then Some kind.BadNumber else (if nat_lt greatest_width (spelled 10 size) then Some kind.TooWide else None)
+    if spelled 10 size == 0 then Some kind.BadNumber else (if nat_lt MAX_WIDTH (spelled 10 size) then Some kind.TooWide else None)
 
 -- without a size the value has 32 bits
 abbrev pub width_fault : List ℕ → Base → List ℕ → Option Kind
@@ -113,18 +110,19 @@ based_fault size base digits = if has_bad_digits base digits then Some kind.BadN
 
 -- ---- signs
 
--- the signs, the longest first (5.3, 11.3)
+-- the signs that are no operators (5.3, 11.4.2, 11.5.1)
+abbrev pub punctuation : List (List ℕ)
+punctuation = codes "+:" ∷ codes "-:" ∷ codes "++" ∷ codes "--" ∷ codes "+=" ∷ codes "-=" ∷ codes "(" ∷ codes ")" ∷ codes "["
+    ∷ codes "]" ∷ codes "{" ∷ codes "}" ∷ codes ";" ∷ codes ":" ∷ codes "," ∷ codes "." ∷ codes "#" ∷ codes "@" ∷ codes "?"
+    ∷ codes "=" ∷ []
+
+-- the signs: operators, those of the standard outside the subset too, and punctuation (5.3, 11.3)
 abbrev pub signs : List (List ℕ)
-signs = codes "<<<" ∷ codes ">>>" ∷ codes "===" ∷ codes "!==" ∷ codes "<<" ∷ codes ">>" ∷ codes "<=" ∷ codes ">="
-    ∷ codes "==" ∷ codes "!=" ∷ codes "&&" ∷ codes "||" ∷ codes "~&" ∷ codes "~|" ∷ codes "~^" ∷ codes "^~"
-    ∷ codes "**" ∷ codes "+:" ∷ codes "-:" ∷ codes "++" ∷ codes "--" ∷ codes "+=" ∷ codes "-=" ∷ codes "("
-    ∷ codes ")" ∷ codes "[" ∷ codes "]" ∷ codes "{" ∷ codes "}" ∷ codes ";" ∷ codes ":" ∷ codes ","
-    ∷ codes "." ∷ codes "#" ∷ codes "@" ∷ codes "?" ∷ codes "=" ∷ codes "+" ∷ codes "-" ∷ codes "*"
-    ∷ codes "/" ∷ codes "%" ∷ codes "&" ∷ codes "|" ∷ codes "^" ∷ codes "~" ∷ codes "!" ∷ codes "<" ∷ codes ">" ∷ []
+signs = keys_of unary_rows ++ keys_of binary_rows ++ refused_operators ++ punctuation
 
 -- one of these
 unfoldable pub is_sign : List ℕ → Bool
-is_sign piece = list_any (λ sign. bytes_eq sign piece) signs
+is_sign piece = list_any (bytes_eq piece) signs
 
 -- ---- the forms
 
@@ -136,7 +134,7 @@ HasForm form.Comment piece = (content : List ℕ) × IsComment content piece × 
 HasForm form.Mark piece = (content : List ℕ) × IsComment content piece × IsMarkText content
 HasForm form.OpenComment piece = (content : List ℕ) × (piece ≡ 47 ∷ 42 ∷ content) × HasNoClose content
 HasForm form.Directive piece = (word : List ℕ) × (rest : List ℕ) × (piece ≡ 96 ∷ word ++ rest)
-    × (is_skipped word ≡ true) × Stops is_name_byte rest × Each is_in_line rest
+    × (is_skipped word ≡ true) × Stops continues_name rest × Each is_in_line rest
 HasForm form.OtherDirective piece = (word : List ℕ) × (piece ≡ 96 ∷ word) × IsName word × (is_skipped word ≡ false)
 HasForm form.Word piece = IsName piece
 HasForm form.System piece = (name : List ℕ) × (piece ≡ 36 ∷ name) × IsName name
@@ -154,20 +152,20 @@ abbrev pub HasNoForm : List ℕ → Type 0
 HasNoForm text = (g : Form) (piece after : List ℕ) → text ≡ piece ++ after → HasForm g piece → ⊥
 
 -- what is wrong with a piece, with the name that the message prints
-abbrev pub Fault : Type 0
-Fault = Option (Kind × List ℕ)
+abbrev pub PieceFault : Type 0
+PieceFault = Option (Kind × List ℕ)
 
 -- by this name
-abbrev pub named : List ℕ → Option Kind → Fault
+abbrev pub named : List ℕ → Option Kind → PieceFault
 named name None = None
 named name (Some k) = Some (k, name)
 
 -- too long a name, named by the limit
-abbrev pub length_fault : List ℕ → Fault
-length_fault name = if nat_lt longest_name (length name) then Some (kind.TooMany, codes "name") else None
+abbrev pub length_fault : List ℕ → PieceFault
+length_fault name = if nat_lt NAME_LIMIT (length name) then Some (kind.TooMany, codes "name") else None
 
 -- What a piece of this form is refused as, or that it is not.
-abbrev pub FaultOf : Form → List ℕ → Fault → Type 0
+abbrev pub FaultOf : Form → List ℕ → PieceFault → Type 0
 FaultOf form.OpenComment piece fault = fault ≡ Some (kind.OpenComment, [])
 FaultOf form.OtherDirective piece fault = (word : List ℕ) × (piece ≡ 96 ∷ word) × (fault ≡ Some (kind.Unsupported, word))
 FaultOf form.Word piece fault = fault ≡ length_fault piece

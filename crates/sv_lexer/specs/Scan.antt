@@ -1,8 +1,9 @@
 -- what the steps of a cut find at the front of a text
 use Rattle.std.specs.Prelude.{◌≡◌, ◌⊎◌, ◌==◌, ◌+◌, ◌<◌, ◌≤◌, ℕ, true, if◌then◌else◌, List, [], ◌∷◌, ◌++◌, length, take, drop, slice_index, Option, None, Some}
 use Rattle.std.specs.Char.{is_ascii_digit}
-use Rattle.sv_lexer.specs.Bytes.{is_blank, is_name_start, is_name_byte, is_digit_of, is_based_byte, Each, Stops}
-use Rattle.sv_lexer.specs.Piece.{HasForm, IsLongest, IsName, IsHead, IsDigits, IsMarkText, Fault, is_sign}
+use Rattle.sv_base.specs.Spelling.{begins_name, continues_name}
+use Rattle.sv_lexer.specs.Bytes.{is_blank, is_digit_of, is_based_byte, Each, Stops}
+use Rattle.sv_lexer.specs.Piece.{HasForm, IsLongest, IsName, IsHead, IsDigits, IsMarkText, PieceFault, is_sign}
 use Rattle.sv_lexer.specs.declared.form.Base.{Base}
 use Rattle.sv_lexer.specs.declared.form.Form.{Form}
 use Rattle.sv_lexer.specs.declared.form.Form.TheVariants as form
@@ -10,8 +11,8 @@ use Rattle.std.specs.List.{cons_option}
 use Rattle.sv_lexer.specs.Cutting.{Piece, Stands, CutsTo, kind_of, token_of, tokens_of, ends_of}
 use Rattle.sv_base.specs.declared.kind.Kind.{Kind}
 use Rattle.sv_base.specs.declared.refusal.Place.{Place}
-use Rattle.sv_lexer.specs.declared.token.LexFault.{LexFault}
-use Rattle.sv_lexer.specs.declared.token.LexFault.TheVariants as lex_fault
+use Rattle.sv_base.specs.declared.fault.Fault.{Fault}
+use Rattle.sv_base.specs.declared.fault.Fault.TheVariants as lex_fault
 use Rattle.sv_lexer.specs.declared.token.Token.{Token}
 use Rattle.sv_lexer.specs.declared.fault.Flaw.{Flaw}
 use Rattle.sv_lexer.specs.declared.found.Found.{Found}
@@ -21,13 +22,13 @@ use Rattle.sv_lexer.specs.declared.lead.Lead.TheVariants.{Blank, Letter, Digit, 
 -- what a first byte leads to
 unfoldable pub lead_of : ℕ → Lead
 lead_of b =
-    if is_name_start b then Letter else (if is_ascii_digit b then Digit else (if is_blank b then Blank
+    if begins_name b then Letter else (if is_ascii_digit b then Digit else (if is_blank b then Blank
     else (if b == 36 then Dollar else (if b == 39 then Quote else (if b == 47 then Slash
     else (if b == 96 then Backquote else (if is_sign (b ∷ []) then Sign else Other)))))))
 
 -- what is known of a byte that leads there
 abbrev pub LeadIs : Lead → ℕ → Type 0
-LeadIs Letter b = is_name_start b ≡ true
+LeadIs Letter b = begins_name b ≡ true
 LeadIs Digit b = is_ascii_digit b ≡ true
 LeadIs Blank b = is_blank b ≡ true
 LeadIs Dollar b = b ≡ 36
@@ -70,7 +71,7 @@ pub record IsNameAt (n : ℕ) (text : List ℕ) : Type 0 where
   pub some : 0 < n
   pub within : n ≤ length text
   pub is_name : IsName (take n text)
-  pub stops : Stops is_name_byte (drop n text)
+  pub stops : Stops continues_name (drop n text)
 
 -- the first `*/` of the text begins here
 pub record ClosesAt (at : ℕ) (text : List ℕ) : Type 0 where
@@ -103,7 +104,7 @@ pub record IsBlankRun (n : ℕ) (text rest : List ℕ) : Type 0 where
   pub stops : Stops is_blank rest
 
 -- a flaw that was found, as a fault of the definition
-abbrev pub fault_of : Option Flaw → Fault
+abbrev pub fault_of : Option Flaw → PieceFault
 fault_of None = None
 fault_of (Some flaw) = Some (flaw.kind, flaw.name.now)
 
@@ -127,6 +128,6 @@ pub record StandsAt (found : Found) (text : List ℕ) : Type 0 where
   pub stands : Stands found.form (take found.len text) (drop found.len text)
 
 -- the fault says this, unless memory ran out
-abbrev pub Says : Kind → List ℕ → Place → LexFault → Type 0
+abbrev pub Says : Kind → List ℕ → Place → Fault → Type 0
 Says k name place (lex_fault.Refused refusal) = (refusal.kind ≡ k) × (refusal.name ≡ name) × (refusal.place ≡ place)
 Says k name place lex_fault.NoMemory = Unit {0}

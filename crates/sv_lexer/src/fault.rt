@@ -7,10 +7,7 @@ use crate::form::{Base, Form};
 use crate::number::head_at;
 use crate::run::{Class, run_len};
 use crate::value::{based_fault, decimal_fault};
-use sv_base::Kind;
-
-/// The greatest number of bytes of a name.
-const LONGEST_NAME: usize = 255;
+use sv_base::{Kind, NAME_LIMIT};
 
 /// What is wrong with a piece, and the name that the message prints.
 #[derive(Clone, Copy, Debug)]
@@ -31,7 +28,7 @@ fn named<'a>(name: &'a [u8], kind: Option<Kind>) -> Option<Flaw<'a>>
 fn length_flaw(name: &[u8]) -> Option<Flaw<'static>>
     ensures { scan.fault_of result ≡ piece_spec.length_fault name.now }
 {
-    if name.len() > LONGEST_NAME {
+    if name.len() > NAME_LIMIT {
         Some(Flaw {
             kind: Kind::TooMany,
             name: b"name",

@@ -1,8 +1,9 @@
 ghost use Rattle.std.specs.Prelude.{◌≡◌};
 ghost use Rattle.sv_lexer.specs.Scan as scan;
 
-use crate::run::{Class, is_in, is_name_start};
+use crate::run::{Class, is_in};
 use crate::sign::is_sign;
+use sv_base::spelling::begins_name;
 
 /// What the first byte of a piece leads to.
 #[derive(Clone, Copy, Debug, PartialEq, Eq)]
@@ -27,7 +28,7 @@ pub fn lead_of(b: u8) -> Lead
     ensures value { result ≡ scan.lead_of b }
     ensures known { scan.LeadIs result b }
 {
-    if is_name_start(b) {
+    if begins_name(b) {
         Lead::Letter
     } else if b.is_ascii_digit() {
         Lead::Digit

@@ -16,6 +16,7 @@ mod sign;
 mod token;
 mod value;
 
+pub use form::Base;
 pub use laws::{not_both, one_list, one_refusal};
 pub use lexer::lex;
 pub use token::{LexFault, Token, TokenKind};

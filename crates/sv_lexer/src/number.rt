@@ -8,18 +8,6 @@ use crate::form::{Base, Form};
 use crate::found::Found;
 use crate::run::{Class, byte_at, is_digit_of, run_len};
 
-fn base_of(letter: u8) -> Option<Base>
-    ensures { result ≡ base_of letter }
-{
-    match letter {
-        b'b' | b'B' => Some(Base::Binary),
-        b'o' | b'O' => Some(Base::Octal),
-        b'd' | b'D' => Some(Base::Decimal),
-        b'h' | b'H' => Some(Base::Hexadecimal),
-        _ => None,
-    }
-}
-
 /// The part of a based number that says its base: `'`, an optional `s`, and the base letter.
 #[derive(Clone, Copy, Debug)]
 pub struct Head {
@@ -32,7 +20,7 @@ fn head_with(bytes: &[u8], letter_at: usize) -> Option<Head>
     ensures { MatchOption result (base_of (slice_index bytes.now letter_at) ≡ None)
         (λ h. (base_of (slice_index bytes.now letter_at) ≡ Some h.base) × (h.len ≡ letter_at + 1)) }
 {
-    let base = base_of(byte_at(bytes, letter_at))?;
+    let base = Base::of(byte_at(bytes, letter_at))?;
     Some(Head {
         base,
         len: letter_at + 1,

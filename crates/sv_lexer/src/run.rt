@@ -3,6 +3,8 @@ ghost use Rattle.sv_lexer.specs.Bytes as bytes_spec;
 ghost use Rattle.sv_lexer.specs.Bytes.{Each, Stops, is_in};
 
 use crate::form::Base;
+use bit_ops::Word;
+use sv_base::spelling::continues_name;
 
 /// The classes of bytes that runs are made of.
 #[derive(Clone, Copy, Debug, PartialEq, Eq)]
@@ -17,27 +19,14 @@ pub enum Class {
     Based(Base),
 }
 
-pub fn radix(base: Base) -> u64
-    ensures value { result ≡ bytes_spec.radix base }
-    ensures some { 1 ≤ result }
-    ensures small { result ≤ 16 }
-{
-    match base {
-        Base::Binary => 2,
-        Base::Octal => 8,
-        Base::Decimal => 10,
-        Base::Hexadecimal => 16,
-    }
-}
-
-pub fn digit_value(b: u8) -> u64
+pub fn digit_value(b: u8) -> Word
     ensures value { result ≡ bytes_spec.digit_value b }
     ensures small { result ≤ 16 }
 {
     match b {
-        b'0'..=b'9' => (b - b'0') as u64,
-        b'a'..=b'f' => (b - b'a' + 10) as u64,
-        b'A'..=b'F' => (b - b'A' + 10) as u64,
+        b'0'..=b'9' => (b - b'0') as Word,
+        b'a'..=b'f' => (b - b'a' + 10) as Word,
+        b'A'..=b'F' => (b - b'A' + 10) as Word,
         _ => 16,
     }
 }
@@ -51,7 +40,7 @@ pub fn is_unknown(b: u8) -> bool
 pub fn is_digit_of(base: Base, b: u8) -> bool
     ensures { result ≡ bytes_spec.is_digit_of base b }
 {
-    digit_value(b) < radix(base) || is_unknown(b)
+    digit_value(b) < base.radix() || is_unknown(b)
 }
 
 pub fn is_in(class: Class, b: u8) -> bool
@@ -60,7 +49,7 @@ pub fn is_in(class: Class, b: u8) -> bool
     match class {
         Class::Blank => b == b' ' || b == b'\t' || b == b'\n' || b == 12 || b == b'\r',
         Class::Line => !(b == b'\n'),
-        Class::Name => b.is_ascii_alphabetic() || b.is_ascii_digit() || b == b'_' || b == b'$',
+        Class::Name => continues_name(b),
         Class::Decimal => b.is_ascii_digit() || b == b'_',
         Class::Based(base) => is_digit_of(base, b) || b == b'_',
     }
@@ -77,12 +66,6 @@ pub fn run_len(class: Class, bytes: &[u8]) -> usize
         n += 1;
     }
     n
-}
-
-pub fn is_name_start(b: u8) -> bool
-    ensures { result ≡ bytes_spec.is_name_start b }
-{
-    b.is_ascii_alphabetic() || b == b'_'
 }
 
 /// The byte at this place, and 0 past the end.

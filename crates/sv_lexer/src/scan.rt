@@ -1,5 +1,6 @@
 ghost use Rattle.std.specs.Prelude.{◌≡◌, ◌<◌, ◌≤◌, ◌∷◌, [], ℕ, length, take, drop, MatchOption, slice_index, true, false};
-ghost use Rattle.sv_lexer.specs.Bytes.{Stops, is_name_start};
+ghost use Rattle.sv_base.specs.Spelling.{begins_name};
+ghost use Rattle.sv_lexer.specs.Bytes.{Stops};
 ghost use Rattle.sv_lexer.specs.Piece.{HasNoForm, is_sign, is_skipped};
 ghost use Rattle.sv_lexer.specs.Scan.{IsFoundAt, IsNameAt, lead_of};
 
@@ -8,14 +9,15 @@ use crate::form::Form;
 use crate::found::Found;
 use crate::lead::{Lead, lead_of};
 use crate::number::{number, quoted};
-use crate::run::{Class, byte_at, is_name_start, run_len};
+use crate::run::{Class, byte_at, run_len};
 use crate::sign::sign_len;
+use sv_base::spelling::begins_name;
 
 /// The length of the name at the front, if one begins the text.
 fn name_len(bytes: &[u8]) -> Option<usize>
-    ensures { MatchOption result (Stops is_name_start bytes.now) (λ n. IsNameAt n bytes.now) }
+    ensures { MatchOption result (Stops begins_name bytes.now) (λ n. IsNameAt n bytes.now) }
 {
-    if bytes.is_empty() || !is_name_start(bytes[0]) {
+    if bytes.is_empty() || !begins_name(bytes[0]) {
         None
     } else {
         Some(run_len(Class::Name, bytes))
@@ -84,7 +86,7 @@ fn slash(bytes: &[u8]) -> Found
 /// The word at the front of a text that begins with a letter or `_`.
 fn word(bytes: &[u8]) -> Found
     requires some { 0 < length bytes.now }
-    requires letter { is_name_start (slice_index bytes.now 0) ≡ true }
+    requires letter { begins_name (slice_index bytes.now 0) ≡ true }
     ensures { IsFoundAt result bytes.now }
 {
     Found {

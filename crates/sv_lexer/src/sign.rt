@@ -1,33 +1,57 @@
-ghost use Rattle.std.specs.Prelude.{◌≡◌, ◌<◌, ◌≤◌, ℕ, [], ◌∷◌, length, take, map, false, true};
+//! Signs: operators and punctuation.
+
+ghost use Rattle.std.specs.Prelude.{◌≡◌, ◌<◌, ◌≤◌, ℕ, ◌||◌, length, take, false, true};
 ghost use Rattle.std.specs.List.{list_any};
 ghost use Rattle.std.specs.Str.{bytes_eq};
-ghost use Rattle.sv_lexer.specs.Piece.{is_sign};
+ghost use Rattle.std.specs.Map.{keys_of};
+ghost use Rattle.sv_base.specs.Operators.{unary_rows, binary_rows, is_refused_operator};
+ghost use Rattle.sv_lexer.specs.Piece.{is_sign, punctuation};
 
-/// The operators and punctuation of the language, those with three bytes first (5.3, 11.3).
-const SIGNS: [&[u8]; 49] = [
-    b"<<<", b">>>", b"===", b"!==", b"<<", b">>", b"<=", b">=", b"==", b"!=", b"&&", b"||", b"~&",
-    b"~|", b"~^", b"^~", b"**", b"+:", b"-:", b"++", b"--", b"+=", b"-=", b"(", b")", b"[", b"]",
-    b"{", b"}", b";", b":", b",", b".", b"#", b"@", b"?", b"=", b"+", b"-", b"*", b"/", b"%", b"&",
-    b"|", b"^", b"~", b"!", b"<", b">",
+use sv_base::{Binary, Unary, is_refused_operator};
+
+/// The signs that are no operators, those with two bytes first (5.3, 11.4.2, 11.5.1).
+const PUNCTUATION: [&str; 20] = [
+    "+:", "-:", "++", "--", "+=", "-=", "(", ")", "[", "]", "{", "}", ";", ":", ",", ".", "#", "@",
+    "?", "=",
 ];
 
-fn is_among(mut table: &[&[u8]], piece: &[u8]) -> bool
-    ensures { result ≡ list_any (λ sign. bytes_eq sign piece.now) (map (λ sign. sign.now) table.entry.now) }
+fn is_among(texts: &[&str], piece: &[u8]) -> bool
+    ensures { result ≡ list_any (λ text. bytes_eq piece.now text.now) texts.now }
 {
-    while let [sign, rest @ ..] = table {
-        if *sign == piece {
-            return true;
-        }
-        table = rest;
-    }
-    false
+    texts.iter().any(|text| piece == text.as_bytes())
 }
 
-#[tactic(auto, unfolding(crate::specs::Piece::is_sign))]
+fn is_punctuation(piece: &[u8]) -> bool
+    ensures { result ≡ list_any (bytes_eq piece.now) punctuation }
+{
+    is_among(&PUNCTUATION, piece)
+}
+
+fn is_unary(piece: &[u8]) -> bool
+    ensures { result ≡ list_any (bytes_eq piece.now) (keys_of unary_rows) }
+{
+    Unary::of(piece).is_some()
+}
+
+fn is_binary(piece: &[u8]) -> bool
+    ensures { result ≡ list_any (bytes_eq piece.now) (keys_of binary_rows) }
+{
+    Binary::of(piece).is_some()
+}
+
+/// Whether the piece stands in one of the four tables.
+fn is_in_tables(piece: &[u8]) -> bool
+    ensures { result ≡ (list_any (bytes_eq piece.now) (keys_of unary_rows)
+        || (list_any (bytes_eq piece.now) (keys_of binary_rows)
+        || (is_refused_operator piece.now || list_any (bytes_eq piece.now) punctuation))) }
+{
+    is_unary(piece) || is_binary(piece) || is_refused_operator(piece) || is_punctuation(piece)
+}
+
 pub fn is_sign(piece: &[u8]) -> bool
     ensures { result ≡ is_sign piece.now }
 {
-    is_among(&SIGNS, piece)
+    is_in_tables(piece)
 }
 
 fn has_sign(bytes: &[u8], len: usize) -> bool

@@ -1,7 +1,4 @@
-ghost use Rattle.std.specs.Prelude.{◌≡◌};
-
-use std::alloc::AllocError;
-use sv_base::{Name, Place, Refusal};
+use sv_base::{Fault, Name, Place};
 
 /// What a token is, by its spelling alone. Reserved words, used or refused, are words here, and refused signs
 /// are signs.
@@ -29,21 +26,6 @@ pub struct Token {
     pub place: Place,
 }
 
-/// Why a text has no tokens.
-#[derive(Debug, Drop)]
-pub enum LexFault {
-    /// At some place no piece of the language can stand.
-    Refused(Refusal),
-    /// Memory ran out.
-    NoMemory,
-}
-
-impl From<AllocError> for LexFault {
-    ghost use Rattle.sv_lexer.specs.declared.token.LexFault.TheVariants.{NoMemory};
-
-    ghost from_gives = { λ _ fault. fault ≡ NoMemory };
-
-    fn from(_error: AllocError) -> LexFault {
-        LexFault::NoMemory
-    }
-}
+/// Why a text has no tokens: BadCharacter, BadNumber, TooWide, OpenComment, Unsupported for a directive, or
+/// TooMany `name`, at the place where no piece of the language can stand.
+pub type LexFault = Fault;

@@ -1,28 +1,27 @@
 ghost use Rattle.std.specs.Prelude.{◌≡◌, ◌<◌, ◌≤◌, ◌+◌, ◌*◌, ◌^◌, length, MatchOption, true, false};
+ghost use Rattle.bit_ops.specs.declared.value.TheConstants.{MAX_WIDTH};
 ghost use Rattle.sv_lexer.specs.Bytes as bytes_spec;
 ghost use Rattle.sv_lexer.specs.Piece as piece_spec;
 
 use crate::form::Base;
-use crate::run::{digit_value, is_unknown, radix};
+use crate::run::{digit_value, is_unknown};
+use bit_ops::{MAX_WIDTH, Word};
 use sv_base::Kind;
 
-/// The greatest width of a value in bits.
-const GREATEST_WIDTH: u64 = 64;
-
 /// One more digit, where a word holds the value.
-fn with_digit(value: u64, radix: u64, digit: u64) -> Option<u64>
-    ensures { MatchOption result (2 ^ 64 ≤ value * radix + digit) (λ v. v ≡ value * radix + digit) }
+fn with_digit(value: Word, radix: Word, digit: Word) -> Option<Word>
+    ensures { MatchOption result (2 ^ MAX_WIDTH ≤ value * radix + digit) (λ v. v ≡ value * radix + digit) }
 {
     value.checked_mul(radix)?.checked_add(digit)
 }
 
-/// The number that digits of this radix spell, with each `_` passed over, where 64 bits hold it. No digit spells 0. A byte
+/// The number that digits of this radix spell, with each `_` passed over, where a word holds it. No digit spells 0. A byte
 /// that is no digit counts 16 (IEEE 1800-2017, 5.7.1).
-pub fn value_of_digits(radix: u64, digits: &[u8]) -> Option<u64>
+pub fn value_of_digits(radix: Word, digits: &[u8]) -> Option<Word>
     requires { 1 ≤ radix }
     ensures { MatchOption
         result
-        (2 ^ 64 ≤ bytes_spec.spelled radix digits.now)
+        (2 ^ MAX_WIDTH ≤ bytes_spec.spelled radix digits.now)
         (λ v. v ≡ bytes_spec.spelled radix digits.now) }
 {
     let mut value = 0;
@@ -51,14 +50,14 @@ fn has_unknown(digits: &[u8]) -> bool
 }
 
 /// The value of the digits, where they are allowed.
-fn good_value(base: Base, digits: &[u8]) -> Option<u64>
+fn good_value(base: Base, digits: &[u8]) -> Option<Word>
     ensures { MatchOption result (piece_spec.has_bad_digits base digits.now ≡ true)
         (λ v. (piece_spec.has_bad_digits base digits.now ≡ false) × (v ≡ bytes_spec.spelled (bytes_spec.radix base) digits.now)) }
 {
     if digits.is_empty() || has_unknown(digits) {
         None
     } else {
-        value_of_digits(radix(base), digits)
+        value_of_digits(base.radix(), digits)
     }
 }
 
@@ -67,7 +66,7 @@ fn size_fault(size: &[u8]) -> Option<Kind>
 {
     match value_of_digits(10, size) {
         Some(0) => Some(Kind::BadNumber),
-        Some(width) if width <= GREATEST_WIDTH => None,
+        Some(width) if width <= Word::from(MAX_WIDTH) => None,
         _ => Some(Kind::TooWide),
     }
 }
