@@ -4,7 +4,7 @@ use Rattle.sv_lexer.specs.declared.token.Token.{Token}
 use Rattle.sv_ast.specs.declared.expression.Expr.{Expr}
 use Rattle.sv_ast.specs.declared.expression.Expr.TheVariants as e
 use Rattle.expr_parser.specs.Spelling.{is_this}
-use Rattle.expr_parser.specs.Grammar.{Phrase, concat, tokens_of, all_tokens_of, tree_of, Is, IsPhrase, strength}
+use Rattle.expr_parser.specs.Grammar.{Phrase, concat, tokens_of, all_tokens_of, tree_of, Is, IsPhrase, strength, signed_strength, full_strength}
 use Rattle.expr_parser.specs.Nesting.{nesting, nestings, operators, in_brackets, greatest_nesting}
 use Rattle.expr_parser.specs.Input.{Input, Parser, turns, sees, and_then, refusal}
 use Rattle.expr_parser.specs.Reading.{opening, whole, list_from, repeated, braced_from, braced}
@@ -64,7 +64,7 @@ list_stuck top least i fs s first_ok frame j l found k x ends =
 
 -- ---- concatenations
 
-pub concat_place : (least : ℕ) (i : Input) (fs : List Frame) (o : Token) (j : Input) → least ≤ 12 → Is (codes "{") o → Took i.rest j.rest (o ∷ []) → j.last ≡ i.last
+pub concat_place : (least : ℕ) (i : Input) (fs : List Frame) (o : Token) (j : Input) → least ≤ signed_strength → Is (codes "{") o → Took i.rest j.rest (o ∷ []) → j.last ≡ i.last
     → j.nested ≡ i.nested + 1 → j.nested ≤ greatest_nesting → ListPlace least i fs (in_braces o) j
 concat_place least i fs o j small is took last count within = record {
   before = o ∷ [];
@@ -72,7 +72,7 @@ concat_place least i fs o j small is took last count within = record {
   wrap = λ ps. concat o ps (sign_token (codes "}"));
   tokens = λ ps. refl;
   grammar = λ ps h. (is, h, close_brace_is);
-  fits = λ ps some. omega arith;
+  fits = λ ps. omega arith;
   nest = λ ps m le. ap (λ x. i.nested + x) (in_brackets-at (length (all_tokens_of ps)) (nestings ps) m le) ∙ omega (arith, count);
   shallow = λ ps k le. one_shallow i.nested (in_brackets (length (all_tokens_of ps)) (nestings ps)) refl
       (in_brackets-at (length (all_tokens_of ps)) (nestings ps) 0 (omega arith) ∙ ap (λ x. 1 + x) (nestings-zero ps)) (omega (arith, count, within)) k le;
@@ -99,7 +99,7 @@ pub record IsBraced (top : Input) (fs : List Frame) (i : Input) (tree : Expr) (k
   pub tokens : (c : Token) → tokens_of (phrase c) ≡ body ++ c ∷ []
   pub grammar : (c : Token) → Is (codes "}") c → IsPhrase (phrase c)
   pub tree_is : (c : Token) → tree_of (phrase c) ≡ tree
-  pub strong : (c : Token) → strength (phrase c) ≡ 14
+  pub strong : (c : Token) → strength (phrase c) ≡ full_strength
   pub none : (c : Token) → operators (phrase c) ≡ 0
   pub took : Took i.rest k.rest body
   pub last_is : k.last ≡ i.last
@@ -107,7 +107,7 @@ pub record IsBraced (top : Input) (fs : List Frame) (i : Input) (tree : Expr) (k
   pub has_it : (c : Token) → Is (codes "}") c → steps (wants fs) (tokens_of (phrase c)) ≡ has (tree_of (phrase c)) fs
   pub stuck : ((t : Token) → Next k.rest t → is_this (codes "}") t ≡ false) → IsFinal top (refusal k)
 
-pub judged_concat : (top : Input) (expr : ℕ → Parser Expr) (depth : ℕ) → IsReader top expr depth → (least : ℕ) → least ≤ 12 → (i : Input) (fs : List Frame) → Spot top least i fs
+pub judged_concat : (top : Input) (expr : ℕ → Parser Expr) (depth : ℕ) → IsReader top expr depth → (least : ℕ) → least ≤ signed_strength → (i : Input) (fs : List Frame) → Spot top least i fs
     → greatest_nesting + 1 ≤ i.nested + suc depth → (o : Token) → Is (codes "{") o → (j : Input) → Took i.rest j.rest (o ∷ []) → j.last ≡ i.last → j.nested ≡ i.nested + 1 → j.nested ≤ greatest_nesting
     → (x : Expr) (k : Input) → IsWhole (in_braces o [] ∷ fs) j x k → sees (codes "{") k ≡ false
     → Judged top (IsBraced top fs i) (and_then (reading.more expr x k) (λ parts m. Ok (e.Concat o.place parts, m)))

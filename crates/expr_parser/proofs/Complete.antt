@@ -5,10 +5,11 @@ use Rattle.std.specs.Str.{bytes_eq}
 use Rattle.sv_lexer.specs.declared.token.Token.{Token}
 use Rattle.sv_ast.specs.declared.expression.Expr.{Expr}
 use Rattle.sv_ast.specs.declared.expression.Expr.TheVariants as e
-use Rattle.expr_parser.specs.Spelling.{is_identifier, is_this, precedence, binds}
-use Rattle.expr_parser.specs.Grammar.{Between, down_to, up_from, down_from, Phrase, number, fill, name, selected, ranged, group, concat, repeat, call, unary, binary, choice, Phrases, only, more, tokens_of, all_tokens_of, tree_of, trees_of, id_of, strength, Is, between_text, IsPhrase, ArePhrases, Reads}
+use Rattle.sv_base.specs.Operators.{binary_of}
+use Rattle.expr_parser.specs.Spelling.{is_identifier, is_this, precedence, binds, left_least, right_least}
+use Rattle.expr_parser.specs.Grammar.{Between, down_to, up_from, down_from, Phrase, number, fill, name, selected, ranged, group, concat, repeat, call, unary, binary, choice, Phrases, only, more, tokens_of, all_tokens_of, tree_of, trees_of, id_of, strength, Is, between_text, IsPhrase, ArePhrases, Reads, signed_strength}
 use Rattle.expr_parser.proofs.Machine.{Frame, under_sign, behind_left, in_first, in_second, in_group, in_call, in_select, in_range, in_braces, in_parts, State, wants, wants_argument, has_name, has, wants_brace, failed, reduce, closed, went_on, begun, step, steps, operand_of}
-use Rattle.expr_parser.proofs.Roles.{not_this, binds-this, binds-not_this, start_of-name, start_of-function, start_of-sign, start_of-number, start_of-fill, start_of-group, start_of-brace, binds-small}
+use Rattle.expr_parser.proofs.Roles.{not_this, binds-this, binds-not_this, start_of-name, start_of-function, start_of-sign, start_of-number, start_of-fill, start_of-group, start_of-brace, binds-small, left_least-over, right_least-over, right_first, select-none, question-none}
 
 -- ---- many steps
 
@@ -25,8 +26,8 @@ steps-failed (t ∷ ts) = steps-failed ts
 -- nothing that a phrase of this strength would finish
 abbrev pub Holds : List Frame → ℕ → Type 0
 Holds [] s = Unit {0}
-Holds (under_sign u ∷ fs) s = 13 ≤ s
-Holds (behind_left l u ∷ fs) s = binds u < s
+Holds (under_sign u ∷ fs) s = signed_strength ≤ s
+Holds (behind_left l u ∷ fs) s = right_least u ≤ s
 Holds (in_first c q ∷ fs) s = Unit {0}
 Holds (in_second c q m ∷ fs) s = Unit {0}
 Holds (in_group ∷ fs) s = Unit {0}
@@ -121,35 +122,35 @@ in-brackets f fs p read holds rests c ends =
     step-end c ends (f ∷ fs) (tree_of p) (strength p) _ (read (f ∷ fs) holds) ∙ ap (λ x. closed c x.0 x.1) rests
 
 pub end-group : (t : Token) → Is (codes ")") t → IsEnd t
-unfolding precedence
+unfolding precedence binary_of
 end-group t h = is_end (codes ")") t h refl refl refl
 
 pub end-select : (t : Token) → Is (codes "]") t → IsEnd t
-unfolding precedence
+unfolding precedence binary_of
 end-select t h = is_end (codes "]") t h refl refl refl
 
 pub end-brace : (t : Token) → Is (codes "}") t → IsEnd t
-unfolding precedence
+unfolding precedence binary_of
 end-brace t h = is_end (codes "}") t h refl refl refl
 
 pub end-open_brace : (t : Token) → Is (codes "{") t → IsEnd t
-unfolding precedence
+unfolding precedence binary_of
 end-open_brace t h = is_end (codes "{") t h refl refl refl
 
 pub end-comma : (t : Token) → Is (codes ",") t → IsEnd t
-unfolding precedence
+unfolding precedence binary_of
 end-comma t h = is_end (codes ",") t h refl refl refl
 
 pub end-colon : (t : Token) → Is (codes ":") t → IsEnd t
-unfolding precedence
+unfolding precedence binary_of
 end-colon t h = is_end (codes ":") t h refl refl refl
 
 pub end-up : (t : Token) → Is (codes "+:") t → IsEnd t
-unfolding precedence
+unfolding precedence binary_of
 end-up t h = is_end (codes "+:") t h refl refl refl
 
 pub end-down : (t : Token) → Is (codes "-:") t → IsEnd t
-unfolding precedence
+unfolding precedence binary_of
 end-down t h = is_end (codes "-:") t h refl refl refl
 
 pub has-group : (o : Token) (p : Phrase) (c : Token) → IsRead p → IsPhrase (group o p c) → (fs : List Frame) → steps (wants fs) (tokens_of (group o p c)) ≡ has (tree_of (group o p c)) fs
@@ -221,30 +222,23 @@ read-unary sign p read h fs holds =
       folds = λ b le. under.folds b (omega arith);
     }
 
--- a sign that binds so finishes nothing of frames that hold
-rests : (fs : List Frame) (b : ℕ) (x : Expr) → 0 < b → b < 13 → (s : ℕ) → s ≤ b → Holds fs s → reduce b fs x ≡ (x, fs)
-rests [] b x some small s le h = refl
-rests (under_sign u ∷ fs) b x some small s le h = absurd (omega arith)
-rests (behind_left l u ∷ fs) b x some small s le h = rw (lt-leb b (binds u) (omega arith)) refl
-rests (in_first c q ∷ fs) b x some small s le h = refl
-rests (in_second c q m ∷ fs) b x some small s le h = rw (ne_eqb b 0 (omega arith)) refl
-rests (in_group ∷ fs) b x some small s le h = refl
-rests (in_call f ∷ fs) b x some small s le h = refl
-rests (in_select id o ∷ fs) b x some small s le h = refl
-rests (in_range w id o a ∷ fs) b x some small s le h = refl
-rests (in_braces o ys ∷ fs) b x some small s le h = refl
-rests (in_parts o n ys ∷ fs) b x some small s le h = refl
-
-select-none : precedence (codes "[") ≡ 0
-unfolding precedence
-select-none = refl
-
-question-none : precedence (codes "?") ≡ 0
-unfolding precedence
-question-none = refl
+-- what asks so much of its left operand finishes nothing of frames that hold
+rests : (fs : List Frame) (b : ℕ) (x : Expr) → 0 < b → (s : ℕ) → s < signed_strength → ((u : Token) → right_least u ≤ s → binds u < b) → Holds fs s
+    → reduce b fs x ≡ (x, fs)
+rests [] b x some s small first h = refl
+rests (under_sign u ∷ fs) b x some s small first h = absurd (omega arith)
+rests (behind_left l u ∷ fs) b x some s small first h = rw (lt-leb b (binds u) (first u h)) refl
+rests (in_first c q ∷ fs) b x some s small first h = refl
+rests (in_second c q m ∷ fs) b x some s small first h = rw (ne_eqb b 0 (omega arith)) refl
+rests (in_group ∷ fs) b x some s small first h = refl
+rests (in_call f ∷ fs) b x some s small first h = refl
+rests (in_select id o ∷ fs) b x some s small first h = refl
+rests (in_range w id o a ∷ fs) b x some s small first h = refl
+rests (in_braces o ys ∷ fs) b x some s small first h = refl
+rests (in_parts o n ys ∷ fs) b x some s small first h = refl
 
 went_on-operator : (t : Token) (x : Expr) (fs : List Frame) → 0 < binds t
-    → went_on t x fs ≡ wants (behind_left (reduce (binds t) fs x).0 t ∷ (reduce (binds t) fs x).1)
+    → went_on t x fs ≡ wants (behind_left (reduce (left_least t) fs x).0 t ∷ (reduce (left_least t) fs x).1)
 went_on-operator t x fs some = rw (lt-ltb 0 (binds t) some) refl
 
 went_on-question : (t : Token) (x : Expr) (fs : List Frame) → Is (codes "?") t
@@ -252,13 +246,16 @@ went_on-question : (t : Token) (x : Expr) (fs : List Frame) → Is (codes "?") t
 went_on-question t x fs h = rw (binds-this (codes "?") t h ∙ question-none, h) refl
 
 -- the left operand and the sign
-pub left-step : (p : Phrase) (sign : Token) (fs : List Frame) → IsRead p → 0 < binds sign → binds sign ≤ 11 → binds sign ≤ strength p → Holds fs (binds sign)
+pub left-step : (p : Phrase) (sign : Token) (fs : List Frame) → IsRead p → 0 < binds sign → left_least sign ≤ strength p → Holds fs (binds sign)
     → step sign (steps (wants fs) (tokens_of p)) ≡ wants (behind_left (tree_of p) sign ∷ fs)
-left-step p sign fs read some small le holds =
-    let left = read fs (Holds-more fs _ _ le holds) in
+left-step p sign fs read some le holds =
+    let over = left_least-over sign in
+    let small = binds-small sign in
+    let left = read fs (Holds-more fs (binds sign) (strength p) (omega arith) holds) in
     step-operand sign (binds-not_this (codes "[") sign some select-none) _ left.operand left.frames left.is
     ∙ went_on-operator sign left.operand left.frames some
-    ∙ ap (λ x. wants (behind_left x.0 sign ∷ x.1)) (left.folds (binds sign) le ∙ rests fs (binds sign) (tree_of p) some (omega arith) (binds sign) (omega arith) holds)
+    ∙ ap (λ x. wants (behind_left x.0 sign ∷ x.1))
+    (left.folds (left_least sign) le ∙ rests fs (left_least sign) (tree_of p) (omega arith) (binds sign) (omega arith) (λ u le_u. right_first u sign le_u) holds)
 
 read-binary : (p : Phrase) (sign : Token) (q : Phrase) → IsRead p → IsRead q → IsPhrase (binary p sign q) → IsRead (binary p sign q)
 read-binary p sign q read_p read_q h fs holds =
@@ -267,8 +264,8 @@ read-binary p sign q read_p read_q h fs holds =
       operand = right.operand;
       frames = right.frames;
       is = ap operand_of (steps-append (wants fs) (tokens_of p) (sign ∷ tokens_of q))
-          ∙ ap (λ k. operand_of (steps k (tokens_of q))) (left-step p sign fs read_p h.0 (binds-small sign) h.2 holds) ∙ right.is;
-      folds = λ b le. right.folds b (omega arith) ∙ rw (le-leb b (binds sign) le) refl;
+          ∙ ap (λ k. operand_of (steps k (tokens_of q))) (left-step p sign fs read_p h.0 h.2 holds) ∙ right.is;
+      folds = λ b le. right.folds b (omega (arith, le, right_least-over sign, h.4)) ∙ rw (le-leb b (binds sign) le) refl;
     }
 
 -- the condition and `?`
@@ -278,7 +275,7 @@ first-step p t fs read h some holds =
     let test = read fs (Holds-more fs _ _ (omega arith) holds) in
     step-operand t (not_this (codes "?") (codes "[") t h refl) _ test.operand test.frames test.is
     ∙ went_on-question t test.operand test.frames h
-    ∙ ap (λ x. wants (in_first x.0 t ∷ x.1)) (test.folds 1 (omega arith) ∙ rests fs 1 (tree_of p) (omega arith) (omega arith) 0 (omega arith) holds)
+    ∙ ap (λ x. wants (in_first x.0 t ∷ x.1)) (test.folds 1 (omega arith) ∙ rests fs 1 (tree_of p) (omega arith) 0 (omega arith) (λ u le_u. omega (arith, right_least-over u, le_u)) holds)
 
 read-choice : (p : Phrase) (t : Token) (q : Phrase) (u : Token) (r : Phrase) → IsRead p → IsRead q → IsRead r → IsPhrase (choice p t q u r) → IsRead (choice p t q u r)
 read-choice p t q u r read_p read_q read_r h fs holds =

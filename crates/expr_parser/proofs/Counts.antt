@@ -5,11 +5,11 @@ use Rattle.std.proofs.lemmas.Bool.{lt-ltb}
 use Rattle.sv_lexer.specs.declared.token.Token.{Token}
 use Rattle.sv_ast.specs.declared.expression.Expr.{Expr}
 use Rattle.sv_ast.specs.declared.expression.Expr.TheVariants as e
-use Rattle.expr_parser.specs.Spelling.{is_identifier, is_this, precedence, binds}
+use Rattle.expr_parser.specs.Spelling.{is_identifier, is_this, binds}
 use Rattle.expr_parser.specs.Grammar.{Between, down_to, up_from, down_from, Phrase, number, fill, name, selected, ranged, group, concat, repeat, call, unary, binary, choice, Phrases, only, more, tokens_of, all_tokens_of, tree_of, trees_of, id_of, strength, Is, between_text, IsPhrase, ArePhrases}
 use Rattle.expr_parser.specs.Nesting.{operators}
 use Rattle.expr_parser.proofs.Machine.{Frame, under_sign, behind_left, in_first, in_second, in_group, in_call, in_select, in_range, in_braces, in_parts, State, wants, wants_argument, has_name, has, wants_brace, failed, reduce, closed, begun, step, steps, operand_of, Start, a_sign, a_number, a_fill, a_name, a_function, a_group, a_brace, no_start, start_of}
-use Rattle.expr_parser.proofs.Roles.{not_this, binds-this, binds-not_this, start_of-name, start_of-function, start_of-sign, start_of-number, start_of-fill, start_of-group, start_of-brace, binds-small}
+use Rattle.expr_parser.proofs.Roles.{not_this, binds-this, binds-not_this, start_of-name, start_of-function, start_of-sign, start_of-number, start_of-fill, start_of-group, start_of-brace, left_least-over, select-none, question-none}
 use Rattle.expr_parser.proofs.Complete.{Holds, Holds-more, Ended, IsEnd, reads_phrase, reads_list, left-step, first-step, in-brackets, end-group, end-select, end-brace, end-open_brace, end-comma, end-colon, end-up, end-down, IsListFrame, ListEnded, IsRead, IsListRead, list-end, braces-frame, parts-frame}
 
 -- ---- what is open: the nesting now, and the nesting before each bracket that is open
@@ -267,14 +267,6 @@ count-unary s p counted h fs holds n S =
     (first_token (wants fs) (wants (under_sign s ∷ fs)) (n, S) (n + 1, S) s (tokens_of p) (depths p (n + 1)) (n + 1 + operators p, S)
     (ap (λ z. begun_count z (n, S)) (start_of-sign s h.0)) (ap (λ k. begun k s fs) (start_of-sign s h.0)) (counted (under_sign s ∷ fs) h.2 (n + 1) S))
 
-select-none : precedence (codes "[") ≡ 0
-unfolding precedence
-select-none = refl
-
-question-none : precedence (codes "?") ≡ 0
-unfolding precedence
-question-none = refl
-
 went_count-operator : (t : Token) (x : Expr) (fs : List Frame) (N : Count) → 0 < binds t → went_count t x fs N ≡ added N
 went_count-operator t x fs N some = rw (lt-ltb 0 (binds t) some) refl
 
@@ -283,14 +275,14 @@ went_count-question t x fs N h = rw (binds-this (codes "?") t h ∙ question-non
 
 count-binary : (p : Phrase) (s : Token) (q : Phrase) → IsRead p → IsCounted p → IsCounted q → IsPhrase (binary p s q) → IsCounted (binary p s q)
 count-binary p s q read counted_p counted_q h fs holds n S =
-    let held = Holds-more fs _ _ h.2 holds in
+    let held = Holds-more fs (binds s) (strength p) (omega (arith, left_least-over s, h.2)) holds in
     let left = read fs held in
     let m = n + operators p in
     finished (binary p s q) fs n S (m + 1 + operators q) (omega arith)
     (joined (wants fs) (n, S) (m, S) (m + 1 + operators q, S) (tokens_of p) (s ∷ tokens_of q) (depths p n) ((m + 1) ∷ depths q (m + 1)) (counted_p fs held n S)
     (first_token (steps (wants fs) (tokens_of p)) (wants (behind_left (tree_of p) s ∷ fs)) (m, S) (m + 1, S) s (tokens_of q) (depths q (m + 1)) (m + 1 + operators q, S)
     (count-operand s (binds-not_this (codes "[") s h.0 select-none) _ left.operand left.frames (m, S) left.is ∙ went_count-operator s left.operand left.frames (m, S) h.0)
-    (left-step p s fs read h.0 (binds-small s) h.2 holds) (counted_q (behind_left (tree_of p) s ∷ fs) h.4 (m + 1) S)))
+    (left-step p s fs read h.0 h.2 holds) (counted_q (behind_left (tree_of p) s ∷ fs) h.4 (m + 1) S)))
 
 count-choice : (p : Phrase) (t : Token) (q : Phrase) (u : Token) (r : Phrase) → IsRead p → IsRead q → IsCounted p → IsCounted q → IsCounted r
     → IsPhrase (choice p t q u r) → IsCounted (choice p t q u r)

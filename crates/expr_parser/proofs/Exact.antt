@@ -4,15 +4,16 @@ use Rattle.std.proofs.lemmas.Bool.{eqb-true}
 use Rattle.sv_base.specs.declared.refusal.Refusal.{Refusal}
 use Rattle.sv_lexer.specs.declared.token.Token.{Token}
 use Rattle.sv_ast.specs.declared.expression.Expr.{Expr}
-use Rattle.expr_parser.specs.declared.fault.ParseFault.{ParseFault}
-use Rattle.expr_parser.specs.declared.fault.ParseFault.TheVariants.{Refused, NoMemory}
+use Rattle.sv_base.specs.declared.fault.Fault.{Fault}
+use Rattle.sv_base.specs.declared.fault.Fault.TheVariants.{Refused, NoMemory}
+use Rattle.sv_base.specs.Faults.{IfRefused}
 use Rattle.expr_parser.specs.Spelling.{is_this, binds}
 use Rattle.expr_parser.specs.Grammar.{Phrase, tokens_of, IsPhrase, strength, tree_of}
 use Rattle.expr_parser.specs.Nesting.{nesting, greatest_nesting}
 use Rattle.expr_parser.specs.Outcome.{grammar_tokens, Begins, NoneGoesOn}
 use Rattle.expr_parser.specs.Input.{Input, Outcome, Gives, past_marks, front_of, behind}
 use Rattle.expr_parser.specs.Reading.{any}
-use Rattle.expr_parser.specs.Steady.{ends_expression, ReadsFrom, StopsAt, TooDeepAt, RefusesAt, IsFaultAt}
+use Rattle.expr_parser.specs.Steady.{ends_expression, ReadsFrom, StopsAt, TooDeepAt, IsRefusedAt, RefusesAt}
 use Rattle.expr_parser.proofs.Machine.{wants, failed, step, steps, operand_of}
 use Rattle.expr_parser.proofs.Took.{grammar_tokens-front, grammar_tokens-append, refusal_at-front, marked_front}
 use Rattle.expr_parser.proofs.Complete.{steps-append, none_begins, ends_with, step-end}
@@ -107,13 +108,13 @@ too_deep_at i r s =
       refused = s.refused;
     }
 
-refused_at : (i : Input) (e : ParseFault) → IsFinal i e → RefusesAt i e
+refused_at : (i : Input) (e : Fault) → IsFinal i e → RefusesAt i e
 refused_at i (Refused r) (inl s) = inl (stops_at i r s)
 refused_at i (Refused r) (inr s) = inr (too_deep_at i r s)
 refused_at i NoMemory h = h
 
 pub exact_reading_lem : (i : Input) → i.nested ≤ greatest_nesting
-    → ((tree : Expr) (k : Input) → any i ≡ Ok (tree, k) → ReadsFrom i tree k) × ((e : ParseFault) → any i ≡ Err e → RefusesAt i e)
+    → ((tree : Expr) (k : Input) → any i ≡ Ok (tree, k) → ReadsFrom i tree k) × ((e : Fault) → any i ≡ Err e → RefusesAt i e)
 exact_reading_lem i fine =
     let P : Outcome Expr → Type 0 = λ o. Judged i (IsWhole [] i) o in
     let all = judged_any i (primary_is i) fine in
@@ -121,11 +122,11 @@ exact_reading_lem i fine =
 
 -- ---- what a function ensures that gives what the definition of reading does
 
-pub any_read : (i k : Input) (r : Result Expr ParseFault) → Gives (any i) r k → i.nested ≤ greatest_nesting → IfOk r (λ tree. ReadsFrom i tree k)
+pub any_read : (i k : Input) (r : Result Expr Fault) → Gives (any i) r k → i.nested ≤ greatest_nesting → IfOk r (λ tree. ReadsFrom i tree k)
 any_read i k (Ok tree) is fine = (exact_reading_lem i fine).0 tree k is
 any_read i k (Err e) is fine = tt
 
-pub any_refused : (i k : Input) (r : Result Expr ParseFault) → Gives (any i) r k → i.nested ≤ greatest_nesting → IfErr r (IsFaultAt i)
+pub any_refused : (i k : Input) (r : Result Expr Fault) → Gives (any i) r k → i.nested ≤ greatest_nesting → IfErr r (IfRefused (IsRefusedAt i))
 any_refused i k (Ok tree) is fine = tt
 any_refused i k (Err (Refused refusal)) is fine = (exact_reading_lem i fine).1 (Refused refusal) (is (λ same. cc))
 any_refused i k (Err NoMemory) is fine = tt

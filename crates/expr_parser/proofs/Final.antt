@@ -4,10 +4,11 @@ use Rattle.std.proofs.lemmas.List.{take_rest}
 use Rattle.sv_lexer.specs.declared.token.Token.{Token}
 use Rattle.sv_base.specs.declared.refusal.Place.{Place}
 use Rattle.sv_ast.specs.declared.expression.Expr.{Expr}
-use Rattle.expr_parser.specs.declared.fault.ParseFault.{ParseFault}
-use Rattle.expr_parser.specs.declared.fault.ParseFault.TheVariants.{Refused, NoMemory}
+use Rattle.sv_base.specs.declared.fault.Fault.{Fault}
+use Rattle.sv_base.specs.declared.fault.Fault.TheVariants.{Refused, NoMemory}
+use Rattle.sv_base.specs.Faults.{IfRefused}
 use Rattle.expr_parser.specs.Nesting.{greatest_nesting}
-use Rattle.expr_parser.specs.Outcome.{IsRead, IsFaultOf, last_place}
+use Rattle.expr_parser.specs.Outcome.{IsRead, IsRefused, last_place}
 use Rattle.expr_parser.specs.Input.{Input}
 use Rattle.expr_parser.specs.Reading.{any}
 use Rattle.expr_parser.specs.Steady.{input_at, ReadsFrom, RefusesAt}
@@ -28,7 +29,7 @@ read_lem tokens at depth le tree k r = record {
   shallow = r.shallow;
 }
 
-fault_lem : (tokens : List Token) (at depth : ℕ) (e : ParseFault) → RefusesAt (input_at tokens at depth) e → IsFaultOf tokens at depth e
+fault_lem : (tokens : List Token) (at depth : ℕ) (e : Fault) → RefusesAt (input_at tokens at depth) e → IfRefused (IsRefused tokens at depth) e
 fault_lem tokens at depth (Refused r) (inl s) = inl (record {
   front = s.front;
   rest = s.rest;
@@ -60,7 +61,7 @@ reads_right tokens at depth le fine tree k is = read_lem tokens at depth le tree
 
 -- what is refused
 pub refuses_right : (tokens : List Token) (at depth : ℕ) → depth ≤ greatest_nesting
-    → (e : ParseFault) → (e ≢ NoMemory → any (input_at tokens at depth) ≡ Err e) → IsFaultOf tokens at depth e
+    → (e : Fault) → (e ≢ NoMemory → any (input_at tokens at depth) ≡ Err e) → IfRefused (IsRefused tokens at depth) e
 refuses_right tokens at depth fine (Refused r) is =
     fault_lem tokens at depth (Refused r) ((exact_reading_lem (input_at tokens at depth) fine).1 (Refused r) (is (λ same. cc)))
 refuses_right tokens at depth fine NoMemory is = tt

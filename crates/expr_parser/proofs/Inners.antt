@@ -3,13 +3,13 @@ use Rattle.std.proofs.Common.{◌≡◌, ◌∙◌, inl, inr, ℕ, ◌+◌, ◌-
 use Rattle.std.proofs.lemmas.Bool.{le-leb, lt-leb, ne_eqb}
 use Rattle.sv_lexer.specs.declared.token.Token.{Token}
 use Rattle.sv_ast.specs.declared.expression.Expr.{Expr}
-use Rattle.expr_parser.specs.Spelling.{is_unary, binds}
-use Rattle.expr_parser.specs.Grammar.{Phrase, number, fill, name, selected, ranged, group, concat, repeat, call, unary, binary, choice, Phrases, only, more, tokens_of, tree_of, Is, strength}
+use Rattle.expr_parser.specs.Spelling.{is_unary, binds, left_least, right_least}
+use Rattle.expr_parser.specs.Grammar.{Phrase, number, fill, name, selected, ranged, group, concat, repeat, call, unary, binary, choice, Phrases, only, more, tokens_of, tree_of, Is, strength, signed_strength}
 use Rattle.expr_parser.specs.Nesting.{nesting, nestings, operators, operands, one_after, in_brackets, greatest_nesting}
 use Rattle.expr_parser.specs.Input.{Input}
 use Rattle.expr_parser.proofs.Machine.{Frame, under_sign, behind_left, in_first, in_second, wants, begun, step, steps}
 use Rattle.expr_parser.proofs.Took.{Took, Took-then}
-use Rattle.expr_parser.proofs.Roles.{start_of-sign, binds-small}
+use Rattle.expr_parser.proofs.Roles.{start_of-sign}
 use Rattle.expr_parser.proofs.Complete.{Holds, steps-append, reads_phrase, left-step, first-step}
 use Rattle.expr_parser.proofs.Spot.{Fits, Inner, cases_le}
 use Rattle.expr_parser.proofs.Part.{Part, spare}
@@ -79,22 +79,22 @@ one_shallow base f a b h k le =
 
 -- ---- the operand of a sign
 
-unfoldable pub inner-unary : (least : ℕ) (i : Input) (fs : List Frame) (t : Token) (j : Input) → least ≤ 12 → is_unary t ≡ true
+unfoldable pub inner-unary : (least : ℕ) (i : Input) (fs : List Frame) (t : Token) (j : Input) → least ≤ signed_strength → is_unary t ≡ true
     → Took i.rest j.rest (t ∷ []) → j.last ≡ i.last → j.nested ≡ i.nested + 1 → i.nested + 1 ≤ greatest_nesting
-    → Inner least i fs 12 j (under_sign t ∷ fs)
+    → Inner least i fs signed_strength j (under_sign t ∷ fs)
 inner-unary least i fs t j small sign took last nested fine = record {
   before = t ∷ [];
   after_it = [];
   wrap = λ q. unary t q;
   tokens = λ q. ap (λ x. t ∷ x) (sym (append-nil (tokens_of q)));
-  grammar = λ q h k. (sign, h, k (omega arith));
-  fits = λ q k some. omega arith;
+  grammar = λ q h k. (sign, h, k);
+  fits = λ q k. omega arith;
   nest = λ q m le. ap (λ x. i.nested + x) (unary-at t q m) ∙ omega (arith, nested);
   shallow = λ q k le. one_shallow i.nested (nesting (unary t q)) refl (unary-at t q 0 ∙ ap (λ x. 1 + x) (nesting-zero q)) fine k le;
   took = took;
   last_is = last;
   state = ap (λ k. begun k t fs) (start_of-sign t sign);
-  holds = λ q k. k (omega arith);
+  holds = λ q k. k;
 }
 
 -- ---- the second operand of a sign
@@ -112,16 +112,16 @@ two_shallow base len f low last k le =
     ]
 
 unfoldable pub inner-binary : (least : ℕ) (i : Input) (fs : List Frame) → ((q : Phrase) → Fits least q → Holds fs (strength q))
-    → (tree : Expr) (j : Input) (p : Part fs i tree j) (t : Token) (k : Input) → least < binds t → binds t ≤ strength p.phrase
+    → (tree : Expr) (j : Input) (p : Part fs i tree j) (t : Token) (k : Input) → 0 < binds t → least ≤ binds t → left_least t ≤ strength p.phrase
     → Took j.rest k.rest (t ∷ []) → k.last ≡ j.last → k.nested ≡ j.nested + 1 → k.nested ≤ greatest_nesting
-    → Inner least i fs (binds t) k (behind_left (tree_of p.phrase) t ∷ fs)
-inner-binary least i fs holds tree j p t k above le took last nested fine = record {
+    → Inner least i fs (right_least t) k (behind_left (tree_of p.phrase) t ∷ fs)
+inner-binary least i fs holds tree j p t k some above le took last nested fine = record {
   before = tokens_of p.phrase ++ t ∷ [];
   after_it = [];
   wrap = λ q. binary p.phrase t q;
   tokens = λ q. after-first (tokens_of p.phrase) (tokens_of q) t;
-  grammar = λ q h f. (omega arith, p.in_grammar, le, h, f (omega arith));
-  fits = λ q f some. above;
+  grammar = λ q h f. (some, p.in_grammar, le, h, f);
+  fits = λ q f. above;
   nest = λ q m short.
       let at : length (tokens_of p.phrase ++ t ∷ []) + m ≡ length (tokens_of p.phrase) + (1 + m) = omega (arith, length-append (tokens_of p.phrase) (t ∷ [])) in
       ap (λ x. i.nested + nesting (binary p.phrase t q) x) at
@@ -137,9 +137,9 @@ inner-binary least i fs holds tree j p t k above le took last nested fine = reco
   took = Took-then i.rest j.rest k.rest (tokens_of p.phrase) (t ∷ []) p.took took;
   last_is = last ∙ p.last_is;
   state = steps-append (wants fs) (tokens_of p.phrase) (t ∷ [])
-      ∙ left-step p.phrase t fs (reads_phrase p.phrase p.in_grammar) (omega arith) (binds-small t) le
-      (holds (binary p.phrase t (number spare)) (λ some. above));
-  holds = λ q f. f (omega arith);
+      ∙ left-step p.phrase t fs (reads_phrase p.phrase p.in_grammar) some le
+      (holds (binary p.phrase t (number spare)) above);
+  holds = λ q f. f;
 }
 
 -- ---- behind `?`, and behind its `:`
@@ -157,7 +157,7 @@ inner-first i fs holds tree j p t u k some is colon took last nested fine = reco
   wrap = λ q. choice p.phrase t q u (number spare);
   tokens = λ q. between_parts (tokens_of p.phrase) (tokens_of q) (u ∷ spare ∷ []) t;
   grammar = λ q h f. (is, p.in_grammar, some, h, colon, refl);
-  fits = λ q f none. absurd (omega arith);
+  fits = λ q f. omega arith;
   nest = λ q m short.
       let at : length (tokens_of p.phrase ++ t ∷ []) + m ≡ length (tokens_of p.phrase) + (1 + m) = omega (arith, length-append (tokens_of p.phrase) (t ∷ [])) in
       let rest = operands (length (tokens_of q)) (nesting q) (operators q) (nesting (number spare)) in
@@ -178,7 +178,7 @@ inner-first i fs holds tree j p t u k some is colon took last nested fine = reco
   last_is = last ∙ p.last_is;
   state = steps-append (wants fs) (tokens_of p.phrase) (t ∷ [])
       ∙ first-step p.phrase t fs (reads_phrase p.phrase p.in_grammar) is some
-      (holds (choice p.phrase t (number spare) u (number spare)) (λ none. absurd (omega arith)));
+      (holds (choice p.phrase t (number spare) u (number spare)) (omega arith));
   holds = λ q f. tt;
 }
 
@@ -226,7 +226,7 @@ inner-second i fs holds tree j p t k first_tree l gs q u m some is colon took la
       wrap = λ r. choice p.phrase t q.phrase u r;
       tokens = λ r. all_parts (tokens_of p.phrase) (tokens_of q.phrase) (tokens_of r) t u;
       grammar = λ r h f. (is, p.in_grammar, some, q.in_grammar, colon, h);
-      fits = λ r f none. absurd (omega arith);
+      fits = λ r f. omega arith;
       nest = λ r n short.
           let at : length ((tokens_of p.phrase ++ t ∷ []) ++ (tokens_of q.phrase ++ u ∷ [])) + n ≡ lp + (1 + (lq + (1 + n))) =
           omega (arith, length-append (tokens_of p.phrase ++ t ∷ []) (tokens_of q.phrase ++ u ∷ []), length-append (tokens_of p.phrase) (t ∷ []), length-append (tokens_of q.phrase) (u ∷ [])) in
@@ -243,7 +243,7 @@ inner-second i fs holds tree j p t k first_tree l gs q u m some is colon took la
       last_is = last_u ∙ q.last_is ∙ last ∙ p.last_is;
       state = steps-append (wants fs) (tokens_of p.phrase ++ t ∷ []) (tokens_of q.phrase ++ u ∷ [])
           ∙ ap (λ x. steps x (tokens_of q.phrase ++ u ∷ [])) (steps-append (wants fs) (tokens_of p.phrase) (t ∷ [])
-          ∙ first-step p.phrase t fs (reads_phrase p.phrase p.in_grammar) is some (holds (choice p.phrase t (number spare) u (number spare)) (λ none. absurd (omega arith))))
+          ∙ first-step p.phrase t fs (reads_phrase p.phrase p.in_grammar) is some (holds (choice p.phrase t (number spare) u (number spare)) (omega arith)))
           ∙ steps-append (wants (in_first (tree_of p.phrase) t ∷ fs)) (tokens_of q.phrase) (u ∷ []) ∙ stepped;
       holds = λ r f. tt;
     }

@@ -4,7 +4,7 @@ use Rattle.std.proofs.lemmas.Bool.{eqb-true, eqb-false}
 use Rattle.sv_lexer.specs.declared.token.Token.{Token}
 use Rattle.sv_ast.specs.declared.expression.Expr.{Expr}
 use Rattle.expr_parser.specs.Spelling.{is_unary}
-use Rattle.expr_parser.specs.Grammar.{tokens_of}
+use Rattle.expr_parser.specs.Grammar.{tokens_of, signed_strength}
 use Rattle.expr_parser.specs.Nesting.{nesting, greatest_nesting}
 use Rattle.expr_parser.specs.Input.{Input, Parser, past_marks, front_of, next, ahead, sees}
 use Rattle.expr_parser.specs.Reading.{prefixed, chosen, level, operand, operations, primary, expr, whole, is_unary_next}
@@ -21,7 +21,7 @@ NoSign i = (t : Token) → Next i.rest t → is_unary t ≡ false
 
 -- what is asked of operands without signs
 abbrev pub PrimaryIs : Input → Type 0
-PrimaryIs top = (expr : ℕ → Parser Expr) (depth : ℕ) → IsReader top expr depth → (least : ℕ) → least ≤ 12 → (i : Input) (fs : List Frame) → Spot top least i fs
+PrimaryIs top = (expr : ℕ → Parser Expr) (depth : ℕ) → IsReader top expr depth → (least : ℕ) → least ≤ signed_strength → (i : Input) (fs : List Frame) → Spot top least i fs
     → greatest_nesting + 1 ≤ i.nested + suc depth → NoSign i → Judged top (IsOperand fs i) (primary expr i)
 
 level_end : (top : Input) (expr : ℕ → Parser Expr) (depth : ℕ) → IsReader top expr depth → (least : ℕ) (i : Input) (fs : List Frame) → Spot top least i fs
@@ -46,7 +46,7 @@ sign_there : (o : Option Token) → is_unary_next o ≡ true → (t : Token) × 
 sign_there None h = absurd cc
 sign_there (Some t) h = (t, refl)
 
-operand_by : (top : Input) → PrimaryIs top → (expr : ℕ → Parser Expr) (depth : ℕ) → IsReader top expr depth → (least : ℕ) → least ≤ 12 → (i : Input) (fs : List Frame)
+operand_by : (top : Input) → PrimaryIs top → (expr : ℕ → Parser Expr) (depth : ℕ) → IsReader top expr depth → (least : ℕ) → least ≤ signed_strength → (i : Input) (fs : List Frame)
     → Spot top least i fs → greatest_nesting + 1 ≤ i.nested + suc depth → (c : Bool) → is_unary_next (front_of (past_marks i.rest)) ≡ c
     → Judged top (IsOperand fs i) (if c then prefixed expr i else primary expr i)
 operand_by top primary_is expr depth reader least small i fs s enough true h =
@@ -55,12 +55,12 @@ operand_by top primary_is expr depth reader least small i fs s enough true h =
 operand_by top primary_is expr depth reader least small i fs s enough false h =
     primary_is expr depth reader least small i fs s enough (λ t is_next. signed_by (front_of (past_marks i.rest)) t false h is_next)
 
-judged_operand : (top : Input) → PrimaryIs top → (expr : ℕ → Parser Expr) (depth : ℕ) → IsReader top expr depth → (least : ℕ) → least ≤ 12 → (i : Input) (fs : List Frame)
+judged_operand : (top : Input) → PrimaryIs top → (expr : ℕ → Parser Expr) (depth : ℕ) → IsReader top expr depth → (least : ℕ) → least ≤ signed_strength → (i : Input) (fs : List Frame)
     → Spot top least i fs → greatest_nesting + 1 ≤ i.nested + suc depth → Judged top (IsOperand fs i) (operand expr i)
 unfolding operand next ahead
 judged_operand top primary_is expr depth reader least small i fs s enough = operand_by top primary_is expr depth reader least small i fs s enough _ refl
 
-judged_level : (top : Input) → PrimaryIs top → (expr : ℕ → Parser Expr) (depth : ℕ) → IsReader top expr depth → (least : ℕ) → least ≤ 12 → (i : Input) (fs : List Frame)
+judged_level : (top : Input) → PrimaryIs top → (expr : ℕ → Parser Expr) (depth : ℕ) → IsReader top expr depth → (least : ℕ) → least ≤ signed_strength → (i : Input) (fs : List Frame)
     → Spot top least i fs → greatest_nesting + 1 ≤ i.nested + suc depth → Judged top (Good least fs i) (level expr least i)
 unfolding level
 judged_level top primary_is expr depth reader least small i fs s enough =
@@ -68,7 +68,7 @@ judged_level top primary_is expr depth reader least small i fs s enough =
     (λ x j o.
     judged_then top (IsClimbed least fs i) (Good least fs i) (operations expr least x j) _
     (judged_operations top expr depth reader least small i fs s enough x j
-    (record { part = o.part; fits = λ some. let strong = o.strong in omega (arith, strong); some = let strong = o.strong in omega (arith, strong) }))
+    (record { part = o.part; fits = let strong = o.strong in omega (arith, strong); some = let strong = o.strong in omega (arith, strong) }))
     (λ y k climbed. level_end top expr depth reader least i fs s enough y k climbed _ refl _ refl))
 
 judged_expr : (top : Input) → PrimaryIs top → (depth : ℕ) → IsReader top (expr depth) depth
@@ -107,5 +107,5 @@ top_spot top fine = record {
   holds = λ q f. tt;
 }
 
-pub judged_any : (top : Input) → PrimaryIs top → top.nested ≤ greatest_nesting → Judged top (IsWhole [] top) (whole (expr 257) top)
-judged_any top primary_is fine = judged_whole top (expr 257) 257 (judged_expr top primary_is 257) top [] (top_spot top fine) (omega arith)
+pub judged_any : (top : Input) → PrimaryIs top → top.nested ≤ greatest_nesting → Judged top (IsWhole [] top) (whole (expr (greatest_nesting + 1)) top)
+judged_any top primary_is fine = judged_whole top (expr (greatest_nesting + 1)) (greatest_nesting + 1) (judged_expr top primary_is (greatest_nesting + 1)) top [] (top_spot top fine) (omega arith)

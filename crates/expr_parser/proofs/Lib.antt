@@ -2,7 +2,6 @@ mod Turns
 mod Last
 mod Machine
 mod Roles
-mod Words
 mod Complete
 mod Took
 mod Spot

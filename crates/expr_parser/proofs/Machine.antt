@@ -7,7 +7,7 @@ use Rattle.sv_lexer.specs.declared.token.Token.{Token}
 use Rattle.sv_ast.specs.declared.expression.Sel.TheVariants as sel
 use Rattle.sv_ast.specs.declared.expression.Expr.{Expr}
 use Rattle.sv_ast.specs.declared.expression.Expr.TheVariants as e
-use Rattle.expr_parser.specs.Spelling.{is_identifier, is_function, is_unary, is_this, binds}
+use Rattle.expr_parser.specs.Spelling.{is_identifier, is_function, is_unary, is_this, binds, left_least}
 use Rattle.expr_parser.specs.Grammar.{Between, down_to, up_from, down_from, id_of, range_of}
 
 -- what is not finished: a sign before an operand, a left operand with its sign, a condition with its `?`, these with the
@@ -34,7 +34,8 @@ pub data State : Type 0 where
   wants_brace : Expr → List Frame → State
   failed : State
 
--- finishes what a sign of this precedence ends, 1 for `?`, and 0 for what ends a whole expression
+-- finishes what holds together at least so tightly: as tightly as an operator asks of its left operand, at least 1 for `?`, and
+-- all for what ends a whole expression
 abbrev pub reduce : ℕ → List Frame → Expr → Expr × List Frame
 reduce b [] x = (x, [])
 reduce b (under_sign s ∷ fs) x = reduce b fs (e.Unary (id_of s) x)
@@ -112,7 +113,7 @@ closed t x (behind_left l s ∷ fs) = failed
 -- behind an operand
 abbrev pub went_on : Token → Expr → List Frame → State
 went_on t x fs =
-    if nat_lt 0 (binds t) then wants (behind_left (reduce (binds t) fs x).0 t ∷ (reduce (binds t) fs x).1)
+    if nat_lt 0 (binds t) then wants (behind_left (reduce (left_least t) fs x).0 t ∷ (reduce (left_least t) fs x).1)
     else (if is_this (codes "?") t then wants (in_first (reduce 1 fs x).0 t ∷ (reduce 1 fs x).1)
     else closed t (reduce 0 fs x).0 (reduce 0 fs x).1)
 

@@ -1,18 +1,19 @@
 -- What reading gives where operators stand.
 use Rattle.std.proofs.Common.{◌≡◌, ◌∙◌, ◌⊎◌, inl, inr, ℕ, zero, suc, ◌+◌, ◌-◌, ◌<◌, ◌≤◌, Bool, true, false, List, [], ◌∷◌, ◌++◌, length, Option, Some, None, Ok, refl, sym, ap, subst, arith, codes, append_assoc, append-nil, length-append, if◌then◌else◌}
+use Rattle.std.proofs.lemmas.Bool.{eq-eqb, ne_eqb}
 use Rattle.std.proofs.lemmas.Bool.Decides.{leb_tells}
 use Rattle.sv_lexer.specs.declared.token.Token.{Token}
 use Rattle.sv_lexer.specs.declared.token.TokenKind.TheVariants as kind
 use Rattle.sv_ast.specs.declared.expression.Expr.{Expr}
 use Rattle.sv_ast.specs.declared.expression.Expr.TheVariants as e
-use Rattle.expr_parser.specs.Spelling.{is_this, is_unary, binds}
-use Rattle.expr_parser.specs.Grammar.{Phrase, number, unary, binary, choice, tokens_of, tree_of, id_of, Is, IsPhrase, strength}
+use Rattle.expr_parser.specs.Spelling.{is_this, is_unary, binds, left_least, right_least}
+use Rattle.expr_parser.specs.Grammar.{Phrase, number, unary, binary, choice, tokens_of, tree_of, id_of, Is, IsPhrase, strength, signed_strength}
 use Rattle.expr_parser.specs.Nesting.{nesting, operators, operands, greatest_nesting}
 use Rattle.expr_parser.specs.Input.{Input, Parser, past_marks, front_of, after, next, ahead, turns, and_then, expect}
-use Rattle.expr_parser.specs.Reading.{prefixed, operation, climb, operations, chosen, binds_next}
+use Rattle.expr_parser.specs.Reading.{prefixed, operation, climb, operations, chosen, binds_next, right_least_next, is_looser}
 use Rattle.expr_parser.proofs.Machine.{Frame, under_sign, behind_left, in_first, in_second, wants, failed, reduce, closed, step, steps, operand_of}
 use Rattle.expr_parser.proofs.Took.{Took, Took-none, Took-then, Took-shorter}
-use Rattle.expr_parser.proofs.Roles.{binds-small}
+use Rattle.expr_parser.proofs.Roles.{left_least-small, right_least-over, right_least-small, left_first}
 use Rattle.expr_parser.proofs.Complete.{Holds, steps-append, reads_phrase, in-brackets, end-colon, same_ends}
 use Rattle.expr_parser.proofs.Spot.{Fits, Judged, judged_then, Spot, Inner, inside, cases_le}
 use Rattle.expr_parser.proofs.Part.{Next, Part, Good, spare, deep_at, stuck_at, risen, spot-small, judged_expect, Took-after, after-last, after-nested}
@@ -21,12 +22,12 @@ use Rattle.expr_parser.proofs.Inners.{unary-at, operands-first, operands-second,
 -- a reader of expressions, for a nesting to which the depth is enough
 abbrev pub IsReader : Input → (ℕ → Parser Expr) → ℕ → Type 0
 IsReader top expr depth =
-    (least : ℕ) → least ≤ 12 → (i : Input) (fs : List Frame) → Spot top least i fs → greatest_nesting + 1 ≤ i.nested + depth → Judged top (Good least fs i) (expr least i)
+    (least : ℕ) → least ≤ signed_strength → (i : Input) (fs : List Frame) → Spot top least i fs → greatest_nesting + 1 ≤ i.nested + depth → Judged top (Good least fs i) (expr least i)
 
 -- an operand, with or without signs before it
 pub record IsOperand (fs : List Frame) (i : Input) (tree : Expr) (j : Input) : Type 0 where
   pub part : Part fs i tree j
-  pub strong : 13 ≤ strength part.phrase
+  pub strong : signed_strength ≤ strength part.phrase
 
 pub wrapped_shallow : (least : ℕ) (i : Input) (fs : List Frame) (inner : ℕ) (j : Input) (gs : List Frame) → (n : Inner least i fs inner j gs)
     → (x : Expr) (k : Input) (g : Good inner gs j x k) (m : ℕ) → m ≤ length n.before + length (tokens_of g.part.phrase)
@@ -48,7 +49,7 @@ wrapped_shallow least i fs inner j gs n x k g m le =
 unfoldable pub wrapped : (least : ℕ) (i : Input) (fs : List Frame) (inner : ℕ) (j : Input) (gs : List Frame) → (n : Inner least i fs inner j gs) → n.after_it ≡ []
     → (x : Expr) (k : Input) (g : Good inner gs j x k) (tree : Expr) → tree_of (n.wrap g.part.phrase) ≡ tree
     → j.nested + operators g.part.phrase ≡ i.nested + operators (n.wrap g.part.phrase)
-    → ((t : Token) → Next k.rest t → binds t ≤ strength (n.wrap g.part.phrase))
+    → ((t : Token) → Next k.rest t → 0 < binds t → left_least t ≤ strength (n.wrap g.part.phrase))
     → Part fs i tree k
 wrapped least i fs inner j gs n none x k g tree tree_is count less =
     let q = g.part.phrase in
@@ -70,23 +71,23 @@ wrapped least i fs inner j gs n none x k g tree tree_is count less =
 
 -- ---- a sign and its operand
 
-pub judged_prefixed : (top : Input) (expr : ℕ → Parser Expr) (depth : ℕ) → IsReader top expr depth → (least : ℕ) → least ≤ 12
+pub judged_prefixed : (top : Input) (expr : ℕ → Parser Expr) (depth : ℕ) → IsReader top expr depth → (least : ℕ) → least ≤ signed_strength
     → (i : Input) (fs : List Frame) → Spot top least i fs → greatest_nesting + 1 ≤ i.nested + suc depth
     → (t : Token) → Next i.rest t → is_unary t ≡ true → Judged top (IsOperand fs i) (prefixed expr i)
 unfolding prefixed inner-unary wrapped
 judged_prefixed top expr depth reader least small i fs s enough t is_next sign =
     let fine = spot-small top least i fs s in
     risen top i t (IsOperand fs i) _ is_next
-    (λ full. deep_at top least i fs s i (unary t (number spare)) [] t (spare ∷ []) (sign, refl, omega arith) (λ some. omega arith) refl (Took-none i.rest) is_next
+    (λ full. deep_at top least i fs s i (unary t (number spare)) [] t (spare ∷ []) (sign, refl, omega arith) (omega arith) refl (Took-none i.rest) is_next
     (λ k le. let none : k ≡ 0 = omega arith in let P : ℕ → Type 0 = λ x. i.nested + nesting (unary t (number spare)) x ≤ greatest_nesting in subst P (sym none) (omega arith))
     (let one = unary-at t (number spare) 0 in omega (arith, one)))
     (λ j took last count within.
     let n = inner-unary least i fs t j small sign took last count (omega (arith, count, within)) in
-    judged_then top (Good 12 (under_sign t ∷ fs) j) (IsOperand fs i) (expr 12 j) _
-    (reader 12 (omega arith) j (under_sign t ∷ fs) (inside top least i fs 12 j (under_sign t ∷ fs) s n) (omega (arith, count)))
+    judged_then top (Good signed_strength (under_sign t ∷ fs) j) (IsOperand fs i) (expr signed_strength j) _
+    (reader signed_strength (omega arith) j (under_sign t ∷ fs) (inside top least i fs signed_strength j (under_sign t ∷ fs) s n) (omega (arith, count)))
     (λ x k g. record {
-      part = wrapped least i fs 12 j (under_sign t ∷ fs) n refl x k g (e.Unary (id_of t) x) (ap (λ z. e.Unary (id_of t) z) g.part.tree_is) (omega (arith, count))
-          (λ u u_next. let at = binds-small u in omega arith);
+      part = wrapped least i fs signed_strength j (under_sign t ∷ fs) n refl x k g (e.Unary (id_of t) x) (ap (λ z. e.Unary (id_of t) z) g.part.tree_is) (omega (arith, count))
+          (λ u u_next some. omega (arith, left_least-small u));
       strong = omega arith;
     }))
 
@@ -98,35 +99,36 @@ pub record IsTighter (least : ℕ) (fs : List Frame) (i : Input) (tree : Expr) (
   pub fits : Fits least part.phrase
   pub some : 0 < strength part.phrase
 
-judged_operation : (top : Input) (expr : ℕ → Parser Expr) (depth : ℕ) → IsReader top expr depth → (least : ℕ) → least ≤ 12
+judged_operation : (top : Input) (expr : ℕ → Parser Expr) (depth : ℕ) → IsReader top expr depth → (least : ℕ) → least ≤ signed_strength
     → (i : Input) (fs : List Frame) → Spot top least i fs → greatest_nesting + 1 ≤ i.nested + suc depth
-    → (tree : Expr) (j : Input) → IsTighter least fs i tree j → (t : Token) → Next j.rest t → least < binds t
-    → Judged top (λ x k. IsTighter least fs i x k × (length k.rest < length j.rest)) (operation expr tree (binds t) j)
+    → (tree : Expr) (j : Input) → IsTighter least fs i tree j → (t : Token) → Next j.rest t → 0 < binds t → least ≤ binds t
+    → Judged top (λ x k. IsTighter least fs i x k × (length k.rest < length j.rest)) (operation expr tree (right_least t) j)
 unfolding operation inner-binary wrapped
-judged_operation top expr depth reader least small i fs s enough tree j tighter t is_next above =
+judged_operation top expr depth reader least small i fs s enough tree j tighter t is_next some above =
     let p = tighter.part in
     let lp = length (tokens_of p.phrase) in
-    let le = p.binds_less t is_next in
+    let le = p.binds_less t is_next some in
+    let at = right_least-small t in
     let over = binary p.phrase t (number spare) in
     risen top j t (λ x k. IsTighter least fs i x k × (length k.rest < length j.rest)) _ is_next
-    (λ full. deep_at top least i fs s j over (tokens_of p.phrase) t (spare ∷ []) (omega arith, p.in_grammar, le, refl, let at = binds-small t in omega arith)
-    (λ some. above) (sym (append_assoc (tokens_of p.phrase) (t ∷ []) (spare ∷ []))) p.took is_next
+    (λ full. deep_at top least i fs s j over (tokens_of p.phrase) t (spare ∷ []) (some, p.in_grammar, le, refl, omega (arith, at))
+    above (sym (append_assoc (tokens_of p.phrase) (t ∷ []) (spare ∷ []))) p.took is_next
     (λ m within. let here = operands-first lp (nesting p.phrase) (operators p.phrase + 1) (nesting (number spare)) m within in
     let fine = p.shallow m within in omega (arith, here, fine))
     (let here = operands-second lp (nesting p.phrase) (operators p.phrase + 1) (nesting (number spare)) 0 in omega (arith, here, p.nested_is, p.small, full)))
     (λ k took last count within.
-    let n = inner-binary least i fs s.holds tree j p t k above le took last count within in
+    let n = inner-binary least i fs s.holds tree j p t k some above le took last count within in
     let gs = behind_left (tree_of p.phrase) t ∷ fs in
-    let at = binds-small t in
-    judged_then top (Good (binds t) gs k) (λ x m. IsTighter least fs i x m × (length m.rest < length j.rest)) (expr (binds t) k) _
-    (reader (binds t) (omega arith) k gs (inside top least i fs (binds t) k gs s n) (omega (arith, count, p.nested_is)))
+    judged_then top (Good (right_least t) gs k) (λ x m. IsTighter least fs i x m × (length m.rest < length j.rest)) (expr (right_least t) k) _
+    (reader (right_least t) (omega (arith, at)) k gs (inside top least i fs (right_least t) k gs s n) (omega (arith, count, p.nested_is)))
     (λ x m g. (
       record {
-        part = wrapped least i fs (binds t) k gs n refl x m g (e.Binary (id_of t) tree x)
+        part = wrapped least i fs (right_least t) k gs n refl x m g (e.Binary (id_of t) tree x)
             (ap (λ z. e.Binary (id_of t) z (tree_of g.part.phrase)) p.tree_is ∙ ap (λ z. e.Binary (id_of t) tree z) g.part.tree_is)
-            (omega (arith, count, p.nested_is)) g.stops;
-        fits = λ some. above;
-        some = omega arith;
+            (omega (arith, count, p.nested_is))
+            (λ u u_next more. let stops = g.stops u u_next in left_first t u (omega (arith, stops, some, right_least-over t)));
+        fits = above;
+        some = some;
       },
       Took-shorter j.rest m.rest (tokens_of g.part.phrase) t (Took-then j.rest k.rest m.rest (t ∷ []) (tokens_of g.part.phrase) took g.part.took),
     )))
@@ -134,33 +136,45 @@ judged_operation top expr depth reader least small i fs s enough tree j tighter 
 -- what was read where no tighter sign comes next
 pub record IsClimbed (least : ℕ) (fs : List Frame) (i : Input) (tree : Expr) (j : Input) : Type 0 where
   pub tighter : IsTighter least fs i tree j
-  pub stops : (t : Token) → Next j.rest t → binds t ≤ least
+  pub stops : (t : Token) → Next j.rest t → binds t ≤ least - 1
 
 empty_next : (ts : List Token) (t : Token) → length ts ≤ 0 → Next ts t → ⊥
 empty_next [] t h is_next = cc
 empty_next (u ∷ ts) t h is_next = omega arith
 
+-- where a token ends an expression
+looser_tells : (level least : ℕ) → ((is_looser level least ≡ true) × (level ≤ least - 1)) ⊎ ((is_looser level least ≡ false) × (least - 1 < level))
+looser_tells level least =
+    elim (cases_le level 0) [
+      | inl none ↦ inl (rw (eq-eqb level 0 (omega arith)) refl, omega arith)
+      | inr some ↦
+          elim (leb_tells (suc level) least) [
+            | inl h ↦ inl (rw (ne_eqb level 0 (omega arith), h.0) refl, omega (arith, h.1))
+            | inr h ↦ inr (rw (ne_eqb level 0 (omega arith), h.0) refl, omega (arith, h.1, some))
+          ]
+    ]
+
 stop_at : (o : Option Token) (t : Token) (least : ℕ) → o ≡ Some t → binds_next o ≤ least → binds t ≤ least
 stop_at None t least h le = absurd cc
 stop_at (Some u) t least h le = let same : u ≡ t = cc in let P : Token → Type 0 = λ x. binds x ≤ least in subst P same le
 
-climb_at : (top : Input) (expr : ℕ → Parser Expr) (depth : ℕ) → IsReader top expr depth → (least : ℕ) → least ≤ 12
+climb_at : (top : Input) (expr : ℕ → Parser Expr) (depth : ℕ) → IsReader top expr depth → (least : ℕ) → least ≤ signed_strength
     → (i : Input) (fs : List Frame) → Spot top least i fs → greatest_nesting + 1 ≤ i.nested + suc depth
     → (n : ℕ) → ((tree : Expr) (j : Input) → IsTighter least fs i tree j → length j.rest ≤ n → Judged top (IsClimbed least fs i) (climb expr least n tree j))
     → (tree : Expr) (j : Input) → IsTighter least fs i tree j → length j.rest ≤ suc n → (o : Option Token) → front_of (past_marks j.rest) ≡ o
-    → (c : Bool) → ((c ≡ true) × (binds_next o ≤ least)) ⊎ ((c ≡ false) × (least < binds_next o))
-    → Judged top (IsClimbed least fs i) (if c then Ok (tree, j) else and_then (operation expr tree (binds_next o) j) (climb expr least n))
+    → (c : Bool) → ((c ≡ true) × (binds_next o ≤ least - 1)) ⊎ ((c ≡ false) × (least - 1 < binds_next o))
+    → Judged top (IsClimbed least fs i) (if c then Ok (tree, j) else and_then (operation expr tree (right_least_next o) j) (climb expr least n))
 climb_at top expr depth reader least small i fs s enough n rec tree j tighter le o h true (inl test) =
-    record { tighter = tighter; stops = λ t is_next. stop_at o t least (sym h ∙ is_next) test.1 }
+    record { tighter = tighter; stops = λ t is_next. stop_at o t (least - 1) (sym h ∙ is_next) test.1 }
 climb_at top expr depth reader least small i fs s enough n rec tree j tighter le o h true (inr test) = absurd cc
 climb_at top expr depth reader least small i fs s enough n rec tree j tighter le o h false (inl test) = absurd cc
 climb_at top expr depth reader least small i fs s enough n rec tree j tighter le None h false (inr test) = absurd (omega (arith, test.1))
 climb_at top expr depth reader least small i fs s enough n rec tree j tighter le (Some t) h false (inr test) =
-    judged_then top (λ x k. IsTighter least fs i x k × (length k.rest < length j.rest)) (IsClimbed least fs i) (operation expr tree (binds t) j) (climb expr least n)
-    (judged_operation top expr depth reader least small i fs s enough tree j tighter t h test.1)
+    judged_then top (λ x k. IsTighter least fs i x k × (length k.rest < length j.rest)) (IsClimbed least fs i) (operation expr tree (right_least t) j) (climb expr least n)
+    (judged_operation top expr depth reader least small i fs s enough tree j tighter t h (omega (arith, test.1)) (omega (arith, test.1)))
     (λ x k g. rec x k g.0 (omega (arith, g.1)))
 
-judged_climb : (top : Input) (expr : ℕ → Parser Expr) (depth : ℕ) → IsReader top expr depth → (least : ℕ) → least ≤ 12
+judged_climb : (top : Input) (expr : ℕ → Parser Expr) (depth : ℕ) → IsReader top expr depth → (least : ℕ) → least ≤ signed_strength
     → (i : Input) (fs : List Frame) → Spot top least i fs → greatest_nesting + 1 ≤ i.nested + suc depth
     → (n : ℕ) (tree : Expr) (j : Input) → IsTighter least fs i tree j → length j.rest ≤ n → Judged top (IsClimbed least fs i) (climb expr least n tree j)
 unfolding climb next ahead
@@ -168,9 +182,9 @@ judged_climb top expr depth reader least small i fs s enough zero tree j tighter
     record { tighter = tighter; stops = λ t is_next. absurd (empty_next j.rest t le is_next) }
 judged_climb top expr depth reader least small i fs s enough (suc n) tree j tighter le =
     climb_at top expr depth reader least small i fs s enough n (judged_climb top expr depth reader least small i fs s enough n) tree j tighter le
-    (front_of (past_marks j.rest)) refl _ (leb_tells (binds_next (front_of (past_marks j.rest))) least)
+    (front_of (past_marks j.rest)) refl _ (looser_tells (binds_next (front_of (past_marks j.rest))) least)
 
-pub judged_operations : (top : Input) (expr : ℕ → Parser Expr) (depth : ℕ) → IsReader top expr depth → (least : ℕ) → least ≤ 12
+pub judged_operations : (top : Input) (expr : ℕ → Parser Expr) (depth : ℕ) → IsReader top expr depth → (least : ℕ) → least ≤ signed_strength
     → (i : Input) (fs : List Frame) → Spot top least i fs → greatest_nesting + 1 ≤ i.nested + suc depth
     → (tree : Expr) (j : Input) → IsTighter least fs i tree j → Judged top (IsClimbed least fs i) (operations expr least tree j)
 unfolding operations turns
@@ -237,8 +251,8 @@ judged_second top expr depth reader i fs s enough tree j p some t is k took last
       part = wrapped 0 i fs 0 (after l) gs n refl y m r (e.Choice (id_of t) tree x y)
           (ap (λ z. e.Choice (id_of t) z (tree_of q.phrase) (tree_of r.part.phrase)) p.tree_is
           ∙ ap (λ z. e.Choice (id_of t) tree z (tree_of r.part.phrase)) q.tree_is ∙ ap (λ z. e.Choice (id_of t) tree x z) r.part.tree_is)
-          (omega (arith, after-nested l, q.nested_is, count, p.nested_is)) r.stops;
-      fits = λ none. absurd (omega arith);
+          (omega (arith, after-nested l, q.nested_is, count, p.nested_is)) (λ u u_next some. let stops = r.stops u u_next in omega (arith, stops, some));
+      fits = omega arith;
       stops = r.stops;
       no_question = r.no_question;
     })
@@ -252,7 +266,7 @@ judged_chosen top expr depth reader i fs s enough tree j p some t is_next is =
     let over = choice p.phrase t (number spare) colon_sign (number spare) in
     risen top j t (Good 0 fs i) _ is_next
     (λ full. deep_at top 0 i fs s j over (tokens_of p.phrase) t (spare ∷ colon_sign ∷ spare ∷ [])
-    (is, p.in_grammar, some, refl, colon_is, refl) (λ none. absurd (omega arith))
+    (is, p.in_grammar, some, refl, colon_is, refl) (omega arith)
     (append_assoc (tokens_of p.phrase) (t ∷ spare ∷ []) (colon_sign ∷ spare ∷ []) ∙ sym (append_assoc (tokens_of p.phrase) (t ∷ []) (spare ∷ colon_sign ∷ spare ∷ []))) p.took is_next
     (λ m within. let here = operands-first lp (nesting p.phrase) (operators p.phrase + 1) one_operand m within in let fine = p.shallow m within in omega (arith, here, fine))
     (let here = operands-second lp (nesting p.phrase) (operators p.phrase + 1) one_operand 0 in

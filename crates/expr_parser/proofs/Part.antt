@@ -7,8 +7,8 @@ use Rattle.sv_base.specs.declared.refusal.Place.{Place}
 use Rattle.sv_base.specs.declared.refusal.Refusal.{Refusal}
 use Rattle.sv_ast.specs.declared.expression.Id.{Id}
 use Rattle.sv_ast.specs.declared.expression.Expr.{Expr}
-use Rattle.expr_parser.specs.declared.fault.ParseFault.TheVariants.{Refused}
-use Rattle.expr_parser.specs.Spelling.{is_this, binds}
+use Rattle.sv_base.specs.declared.fault.Fault.TheVariants.{Refused}
+use Rattle.expr_parser.specs.Spelling.{is_this, binds, left_least}
 use Rattle.expr_parser.specs.Grammar.{Phrase, number, tokens_of, tree_of, id_of, IsPhrase, strength}
 use Rattle.expr_parser.specs.Nesting.{nesting, operators, greatest_nesting}
 use Rattle.expr_parser.specs.Outcome.{refusal_at, nesting_refusal}
@@ -32,14 +32,14 @@ pub record Part (fs : List Frame) (i : Input) (tree : Expr) (j : Input) : Type 0
   pub nested_is : j.nested ≡ i.nested + operators phrase
   pub small : j.nested ≤ greatest_nesting
   pub shallow : (k : ℕ) → k ≤ length (tokens_of phrase) → i.nested + nesting phrase k ≤ greatest_nesting
-  pub binds_less : (t : Token) → Next j.rest t → binds t ≤ strength phrase
+  pub binds_less : (t : Token) → Next j.rest t → 0 < binds t → left_least t ≤ strength phrase
   pub no_select : (t : Token) → Next j.rest t → is_this (codes "[") t ≡ true → step t (steps (wants fs) (tokens_of phrase)) ≡ failed
 
--- a whole expression, or an operand of a sign that binds so
+-- an expression that holds together at least so tightly, the longest
 pub record Good (least : ℕ) (fs : List Frame) (i : Input) (tree : Expr) (j : Input) : Type 0 where
   pub part : Part fs i tree j
   pub fits : Fits least part.phrase
-  pub stops : (t : Token) → Next j.rest t → binds t ≤ least
+  pub stops : (t : Token) → Next j.rest t → binds t ≤ least - 1
   pub no_question : least ≡ 0 → (t : Token) → Next j.rest t → is_this (codes "?") t ≡ false
 
 -- a token that stands for any operand

@@ -6,16 +6,16 @@ use Rattle.sv_lexer.specs.declared.token.TokenKind.TheVariants as kind
 use Rattle.sv_ast.specs.declared.expression.Id.{Id}
 use Rattle.sv_ast.specs.declared.expression.Expr.{Expr}
 use Rattle.sv_ast.specs.declared.expression.Expr.TheVariants as e
-use Rattle.expr_parser.specs.declared.fault.ParseFault.TheVariants.{Refused}
+use Rattle.sv_base.specs.declared.fault.Fault.TheVariants.{Refused}
 use Rattle.expr_parser.specs.Outcome.{nesting_refusal}
-use Rattle.expr_parser.specs.Spelling.{is_this, is_function, precedence, binds}
-use Rattle.expr_parser.specs.Grammar.{Phrase, number, fill, group, call, tokens_of, tree_of, id_of, Is, IsPhrase, strength}
+use Rattle.expr_parser.specs.Spelling.{is_this, is_function, binds}
+use Rattle.expr_parser.specs.Grammar.{Phrase, number, fill, group, call, tokens_of, tree_of, id_of, Is, IsPhrase, strength, signed_strength, full_strength}
 use Rattle.expr_parser.specs.Nesting.{nesting, operators, in_brackets, one_after, greatest_nesting}
 use Rattle.expr_parser.specs.Input.{Input, Outcome, Parser, after, next, ahead, sees, and_then, rise, take_id, refusal, refuse, expect}
 use Rattle.expr_parser.specs.Reading.{opening, whole, select, parenthesised, system}
 use Rattle.expr_parser.proofs.Machine.{Frame, under_sign, behind_left, in_first, in_second, in_group, in_call, in_select, in_range, in_braces, in_parts, wants, wants_argument, has, failed, reduce, closed, went_on, begun, step, steps, operand_of}
 use Rattle.expr_parser.proofs.Took.{Took, Took-none, Took-then}
-use Rattle.expr_parser.proofs.Roles.{not_this, binds-this, binds-small, start_of-function, start_of-number, start_of-fill, start_of-group}
+use Rattle.expr_parser.proofs.Roles.{not_this, binds-this, left_least-small, select-none, start_of-function, start_of-number, start_of-fill, start_of-group}
 use Rattle.expr_parser.proofs.Complete.{Holds, reads_phrase, has-group, has-call}
 use Rattle.expr_parser.proofs.Spot.{IsFinal, Judged, judged_then, Spot, Inner, inside, cases_le}
 use Rattle.expr_parser.proofs.Part.{Next, spare, deep_at, stuck_at, risen, spot-small, judged_expect, judged_take, sees-yes, sees-no, Took-after, after-last, after-nested}
@@ -42,10 +42,6 @@ close_select_is = refl
 
 -- ---- operands that the machine has
 
-select-none : precedence (codes "[") ≡ 0
-unfolding precedence
-select-none = refl
-
 closed-select : (t : Token) → Is (codes "[") t → (x : Expr) (fs : List Frame) → closed t x fs ≡ failed
 closed-select t h x [] = refl
 closed-select t h x (under_sign s ∷ fs) = refl
@@ -68,7 +64,7 @@ select_fails t h x fs =
     let plain : went_on t x fs ≡ closed t (reduce 0 fs x).0 (reduce 0 fs x).1 = rw (none, not_this (codes "[") (codes "?") t h refl) refl in
     plain ∙ closed-select t h (reduce 0 fs x).0 (reduce 0 fs x).1
 
-pub primary_at : (fs : List Frame) (i : Input) (p : Phrase) → IsPhrase p → (tree : Expr) → tree_of p ≡ tree → strength p ≡ 14 → operators p ≡ 0 → (k : Input)
+pub primary_at : (fs : List Frame) (i : Input) (p : Phrase) → IsPhrase p → (tree : Expr) → tree_of p ≡ tree → strength p ≡ full_strength → operators p ≡ 0 → (k : Input)
     → Took i.rest k.rest (tokens_of p) → k.last ≡ i.last → k.nested ≡ i.nested → i.nested ≤ greatest_nesting
     → ((m : ℕ) → m ≤ length (tokens_of p) → i.nested + nesting p m ≤ greatest_nesting)
     → ((t : Token) → Next k.rest t → is_this (codes "[") t ≡ true → step t (steps (wants fs) (tokens_of p)) ≡ failed)
@@ -83,7 +79,7 @@ primary_at fs i p h tree tree_is strong none k took last count small shallow sel
     nested_is = omega (arith, count, none);
     small = omega (arith, count, small);
     shallow = shallow;
-    binds_less = λ t is_next. let at = binds-small t in omega (arith, at, strong);
+    binds_less = λ t is_next some. omega (arith, left_least-small t, strong);
     no_select = select;
   };
   strong = omega (arith, strong);
@@ -156,7 +152,7 @@ opened top i text t good f is_next is deep k =
 
 -- ---- what is in parentheses
 
-pub inner-group : (least : ℕ) (i : Input) (fs : List Frame) (o : Token) (j : Input) → least ≤ 12 → Is (codes "(") o
+pub inner-group : (least : ℕ) (i : Input) (fs : List Frame) (o : Token) (j : Input) → least ≤ signed_strength → Is (codes "(") o
     → Took i.rest j.rest (o ∷ []) → j.last ≡ i.last → j.nested ≡ i.nested + 1 → i.nested + 1 ≤ greatest_nesting → Inner least i fs 0 j (in_group ∷ fs)
 inner-group least i fs o j small is took last count fine = record {
   before = o ∷ [];
@@ -164,7 +160,7 @@ inner-group least i fs o j small is took last count fine = record {
   wrap = λ q. group o q (sign_token (codes ")"));
   tokens = λ q. refl;
   grammar = λ q h f. (is, h, close_group_is);
-  fits = λ q f some. omega arith;
+  fits = λ q f. omega arith;
   nest = λ q m le. ap (λ x. i.nested + x) (in_brackets-at (length (tokens_of q)) (nesting q) m le) ∙ omega (arith, count);
   shallow = λ q k le. one_shallow i.nested (in_brackets (length (tokens_of q)) (nesting q)) refl
       (in_brackets-at (length (tokens_of q)) (nesting q) 0 (omega arith) ∙ ap (λ x. 1 + x) (nesting-zero q)) fine k le;
@@ -253,13 +249,13 @@ group_ends : (fs : List Frame) (t : Token) (y : Expr) → is_this (codes ")") t 
 group_ends fs t y h = rw h refl
 
 -- "(" expr ")"
-pub judged_group : (top : Input) (expr : ℕ → Parser Expr) (depth : ℕ) → IsReader top expr depth → (least : ℕ) → least ≤ 12 → (i : Input) (fs : List Frame) → Spot top least i fs
+pub judged_group : (top : Input) (expr : ℕ → Parser Expr) (depth : ℕ) → IsReader top expr depth → (least : ℕ) → least ≤ signed_strength → (i : Input) (fs : List Frame) → Spot top least i fs
     → greatest_nesting + 1 ≤ i.nested + suc depth → (o : Token) → Next i.rest o → Is (codes "(") o → Judged top (IsParen in_group fs o i) (parenthesised expr i)
 judged_group top expr depth reader least small i fs s enough o o_next o_is =
     let fine = spot-small top least i fs s in
     let over = group o (number spare) (sign_token (codes ")")) in
     judged_paren top expr depth reader least i fs s enough i refl in_group (λ y. refl) (λ x. tt) (group_ends fs) o o_next o_is
-    (λ full. deep_at top least i fs s i over [] o (spare ∷ sign_token (codes ")") ∷ []) (o_is, refl, close_group_is) (λ some. omega arith) refl (Took-none i.rest) o_next
+    (λ full. deep_at top least i fs s i over [] o (spare ∷ sign_token (codes ")") ∷ []) (o_is, refl, close_group_is) (omega arith) refl (Took-none i.rest) o_next
     (λ k le. one_shallow_none i over refl fine k le)
     (let one = in_brackets-at 1 (nesting (number spare)) 0 (omega arith) in omega (arith, one)))
     (λ j took last count within. inner-group least i fs o j small o_is took last count (omega (arith, count, within)))
@@ -294,7 +290,7 @@ paren_absent top expr i good f none final =
     (λ _ i1. and_then (whole expr i1) (λ tree i2. and_then (expect (codes ")") i2) (λ _ i3. Ok (tree, record i3 { nested = i.nested }))))) f) in
     subst P (sym none) final
 
-inner-call : (least : ℕ) (i : Input) (fs : List Frame) (f o : Token) (j : Input) → least ≤ 12 → is_function f ≡ true → Is (codes "(") o
+inner-call : (least : ℕ) (i : Input) (fs : List Frame) (f o : Token) (j : Input) → least ≤ signed_strength → is_function f ≡ true → Is (codes "(") o
     → Took i.rest j.rest (f ∷ o ∷ []) → j.last ≡ i.last → j.nested ≡ i.nested + 1 → i.nested + 1 ≤ greatest_nesting → Inner least i fs 0 j (in_call f ∷ fs)
 inner-call least i fs f o j small function is took last count fine = record {
   before = f ∷ o ∷ [];
@@ -302,7 +298,7 @@ inner-call least i fs f o j small function is took last count fine = record {
   wrap = λ q. call f o q (sign_token (codes ")"));
   tokens = λ q. refl;
   grammar = λ q h g. (function, is, h, close_group_is);
-  fits = λ q g some. omega arith;
+  fits = λ q g. omega arith;
   nest = λ q m le.
       let at : 2 + m - 1 ≡ 1 + m = omega arith in
       ap (λ x. i.nested + in_brackets (length (tokens_of q)) (nesting q) x) at
@@ -318,7 +314,7 @@ inner-call least i fs f o j small function is took last count fine = record {
 call_ends : (f : Token) (fs : List Frame) (t : Token) (y : Expr) → is_this (codes ")") t ≡ false → closed t y (in_call f ∷ fs) ≡ failed
 call_ends f fs t y h = rw h refl
 
-system_by : (top : Input) (expr : ℕ → Parser Expr) (depth : ℕ) → IsReader top expr depth → (least : ℕ) → least ≤ 12 → (i : Input) (fs : List Frame) → Spot top least i fs
+system_by : (top : Input) (expr : ℕ → Parser Expr) (depth : ℕ) → IsReader top expr depth → (least : ℕ) → least ≤ signed_strength → (i : Input) (fs : List Frame) → Spot top least i fs
     → greatest_nesting + 1 ≤ i.nested + suc depth → (f : Token) → Next i.rest f → is_function f ≡ true → (c : Bool) → sees (codes "(") (after i) ≡ c
     → Judged top (IsOperand fs i) (and_then (parenthesised expr (after i)) (λ argument k. Ok (e.System (id_of f) argument, k)))
 system_by top expr depth reader least small i fs s enough f f_next function false h =
@@ -326,7 +322,7 @@ system_by top expr depth reader least small i fs s enough f f_next function fals
     let fine = spot-small top least i fs s in
     let over = call f (sign_token (codes "(")) (number spare) (sign_token (codes ")")) in
     paren_absent top expr (after i) (IsOperand fs i) (λ argument k. Ok (e.System (id_of f) argument, k)) h
-    (stuck_at top least i fs s (after i) over (f ∷ []) (sign_token (codes "(") ∷ spare ∷ sign_token (codes ")") ∷ []) (function, open_group_is, refl, close_group_is) (λ some. omega arith) refl
+    (stuck_at top least i fs s (after i) over (f ∷ []) (sign_token (codes "(") ∷ spare ∷ sign_token (codes ")") ∷ []) (function, open_group_is, refl, close_group_is) (omega arith) refl
     (Took-after i f f_next) (after-last i)
     (λ m le. brackets_one i.nested (in_brackets 1 (nesting (number spare))) refl fine m le)
     (λ t t_next. ap (step t) state ∙ rw (sees-no (codes "(") (after i) h t t_next) refl)
@@ -338,7 +334,7 @@ system_by top expr depth reader least small i fs s enough f f_next function true
     let over = call f o (number spare) (sign_token (codes ")")) in
     judged_then top (IsParen (in_call f) fs o (after i)) (IsOperand fs i) (parenthesised expr (after i)) (λ argument k. Ok (e.System (id_of f) argument, k))
     (judged_paren top expr depth reader least i fs s enough (after i) (after-nested i) (in_call f) (λ y. refl) (λ x. tt) (call_ends f fs) o found.1.0 found.1.1
-    (λ full. deep_at top least i fs s (after i) over (f ∷ []) o (spare ∷ sign_token (codes ")") ∷ []) (function, found.1.1, refl, close_group_is) (λ some. omega arith) refl
+    (λ full. deep_at top least i fs s (after i) over (f ∷ []) o (spare ∷ sign_token (codes ")") ∷ []) (function, found.1.1, refl, close_group_is) (omega arith) refl
     (Took-after i f f_next) found.1.0
     (λ m le. brackets_one i.nested (in_brackets 1 (nesting (number spare))) refl fine m le)
     (let one = in_brackets-at 1 (nesting (number spare)) 0 (omega arith) in omega (arith, one, after-nested i, full)))
@@ -356,7 +352,7 @@ system_by top expr depth reader least small i fs s enough f f_next function true
     (λ m le. brackets_shallow i.nested (length (tokens_of q)) (nesting q) fine (λ n within. let low = g.part.shallow n within in omega (arith, low, p.count, after-nested i)) (m - 1))
     (λ t t_next is. ap (step t) (has-call f o q p.close (reads_phrase q g.part.in_grammar) h2 fs) ∙ select_fails t is (e.System (id_of f) (tree_of q)) fs))
 
-pub judged_system : (top : Input) (expr : ℕ → Parser Expr) (depth : ℕ) → IsReader top expr depth → (least : ℕ) → least ≤ 12 → (i : Input) (fs : List Frame) → Spot top least i fs
+pub judged_system : (top : Input) (expr : ℕ → Parser Expr) (depth : ℕ) → IsReader top expr depth → (least : ℕ) → least ≤ signed_strength → (i : Input) (fs : List Frame) → Spot top least i fs
     → greatest_nesting + 1 ≤ i.nested + suc depth → (f : Token) → Next i.rest f → is_function f ≡ true → Judged top (IsOperand fs i) (system expr i)
 unfolding system
 judged_system top expr depth reader least small i fs s enough f f_next function =

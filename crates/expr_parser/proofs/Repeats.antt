@@ -5,7 +5,7 @@ use Rattle.sv_lexer.specs.declared.token.Token.{Token}
 use Rattle.sv_ast.specs.declared.expression.Expr.{Expr}
 use Rattle.sv_ast.specs.declared.expression.Expr.TheVariants as e
 use Rattle.expr_parser.specs.Spelling.{is_this}
-use Rattle.expr_parser.specs.Grammar.{Phrase, number, repeat, Phrases, only, tokens_of, all_tokens_of, tree_of, trees_of, Is}
+use Rattle.expr_parser.specs.Grammar.{Phrase, number, repeat, Phrases, only, tokens_of, all_tokens_of, tree_of, trees_of, Is, signed_strength}
 use Rattle.expr_parser.specs.Nesting.{nesting, nestings, in_brackets, greatest_nesting}
 use Rattle.expr_parser.specs.Input.{Input, Parser, after, turns, and_then, expect}
 use Rattle.expr_parser.specs.Reading.{opening, whole, list_from, repeated, braced_from, braced}
@@ -40,7 +40,7 @@ inside-second p ps m h =
     ∙ in_brackets-at (length (all_tokens_of ps)) (nestings ps) m h
 
 repeat_place : (least : ℕ) (i : Input) (fs : List Frame) (o : Token) (j : Input) (x : Expr) (k : Input) (w : IsWhole (in_braces o [] ∷ fs) j x k) (d : Token) (l : Input)
-    → least ≤ 12 → Is (codes "{") o → Is (codes "{") d → i.nested ≤ greatest_nesting → Took i.rest j.rest (o ∷ []) → j.last ≡ i.last → j.nested ≡ i.nested + 1
+    → least ≤ signed_strength → Is (codes "{") o → Is (codes "{") d → i.nested ≤ greatest_nesting → Took i.rest j.rest (o ∷ []) → j.last ≡ i.last → j.nested ≡ i.nested + 1
     → Took k.rest l.rest (d ∷ []) → l.last ≡ k.last → l.nested ≡ k.nested + 1 → l.nested ≤ greatest_nesting
     → ListPlace least i fs (in_parts o (tree_of w.good.part.phrase)) l
 repeat_place least i fs o j x k w d l small is d_is fine took last count took_d last_d count_d within =
@@ -54,7 +54,7 @@ repeat_place least i fs o j x k w d l small is d_is fine took last count took_d 
       wrap = λ ps. repeat o p.phrase d ps close close;
       tokens = λ ps. ap (λ z. o ∷ z) (between_parts tp (all_tokens_of ps) (close ∷ close ∷ []) d);
       grammar = λ ps h. (is, p.in_grammar, d_is, h, close_brace_is, close_brace_is);
-      fits = λ ps some. omega arith;
+      fits = λ ps. omega arith;
       nest = λ ps m le.
           let len = length tp + 1 + length (all_tokens_of ps) + 1 in
           let at : length (o ∷ tp ++ d ∷ []) + m ≡ 1 + (length tp + (1 + m)) = omega (arith, length-append tp (d ∷ [])) in
@@ -90,7 +90,7 @@ repeat_low base p ps first small second u =
       | inr long ↦ let here = inside-beyond p ps u long in let ok = brackets_shallow base (length (all_tokens_of ps)) (nestings ps) small second (u - length (tokens_of p)) in omega (arith, here, ok)
     ]
 
-repeat_done : (top : Input) (least : ℕ) (i : Input) (fs : List Frame) → (s : Spot top least i fs) → least ≤ 12 → (o : Token) → Is (codes "{") o → (j : Input) → Took i.rest j.rest (o ∷ [])
+repeat_done : (top : Input) (least : ℕ) (i : Input) (fs : List Frame) → (s : Spot top least i fs) → least ≤ signed_strength → (o : Token) → Is (codes "{") o → (j : Input) → Took i.rest j.rest (o ∷ [])
     → j.last ≡ i.last → j.nested ≡ i.nested + 1 → (x : Expr) (k : Input) (w : IsWhole (in_braces o [] ∷ fs) j x k) (d : Token) → Is (codes "{") d → (l : Input) → Took k.rest l.rest (d ∷ [])
     → l.last ≡ k.last → l.nested ≡ k.nested + 1 → l.nested ≤ greatest_nesting → (parts : List Expr) (m : Input) → IsList any_token fs (in_parts o (tree_of w.good.part.phrase)) l parts m
     → (done : Token) → Is (codes "}") done → (z : Input) → Took m.rest z.rest (done ∷ []) → z.last ≡ m.last → IsBraced top fs i (e.Repeat o.place x parts) z
@@ -133,12 +133,12 @@ repeat_done top least i fs s small o is j took last count x k w d d_is l took_d 
       last_is = last_z ∙ q.last_is ∙ last_d ∙ whole_last (in_braces o [] ∷ fs) j x k w ∙ last;
       shallow = low;
       has_it = λ c h. has-repeat o p.phrase d q.phrases done c (reads_phrase p.phrase p.in_grammar) (reads_list q.phrases q.in_grammar) (is, p.in_grammar, d_is, q.in_grammar, done_is, h) fs;
-      stuck = λ no. stuck_at top least i fs s z (repeat o p.phrase d q.phrases done close) body_is (close ∷ []) (is, p.in_grammar, d_is, q.in_grammar, done_is, close_brace_is) (λ some. omega arith)
+      stuck = λ no. stuck_at top least i fs s z (repeat o p.phrase d q.phrases done close) body_is (close ∷ []) (is, p.in_grammar, d_is, q.in_grammar, done_is, close_brace_is) (omega arith)
           (sym (append_assoc ((o ∷ tp) ++ (d ∷ all)) (done ∷ []) (close ∷ []))) took_all (last_z ∙ q.last_is ∙ last_d ∙ whole_last (in_braces o [] ∷ fs) j x k w ∙ last)
           (λ v le. low close v) (λ t t_next. ap (step t) state ∙ rw (no t t_next) refl) (λ y gs is_it. absurd (no_operand (y, gs) (sym (ap operand_of state) ∙ is_it)));
     }
 
-pub judged_repeat : (top : Input) (expr : ℕ → Parser Expr) (depth : ℕ) → IsReader top expr depth → (least : ℕ) → least ≤ 12 → (i : Input) (fs : List Frame) → (s : Spot top least i fs)
+pub judged_repeat : (top : Input) (expr : ℕ → Parser Expr) (depth : ℕ) → IsReader top expr depth → (least : ℕ) → least ≤ signed_strength → (i : Input) (fs : List Frame) → (s : Spot top least i fs)
     → greatest_nesting + 1 ≤ i.nested + suc depth → (o : Token) → Is (codes "{") o → (j : Input) → Took i.rest j.rest (o ∷ []) → j.last ≡ i.last → j.nested ≡ i.nested + 1 → j.nested ≤ greatest_nesting
     → (x : Expr) (k : Input) → IsWhole (in_braces o [] ∷ fs) j x k → (d : Token) → Next k.rest d → Is (codes "{") d
     → Judged top (IsBraced top fs i) (and_then (repeated expr k) (λ parts m. Ok (e.Repeat o.place x parts, m)))
@@ -156,7 +156,7 @@ judged_repeat top expr depth reader least small i fs s enough o is j took last c
     judged_then top good (IsBraced top fs i) (repeated expr k) (λ parts m. Ok (e.Repeat o.place x parts, m))
     (opened top k (codes "{") d good _ d_next d_is
     (λ full. deep_at top least i fs s k (repeat o p.phrase d one close close) (o ∷ tp) d (spare ∷ close ∷ close ∷ []) (is, p.in_grammar, d_is, refl, close_brace_is, close_brace_is)
-    (λ some. omega arith) (ap (λ z. o ∷ z) (append_assoc tp (d ∷ spare ∷ []) (close ∷ close ∷ []) ∙ sym (append_assoc tp (d ∷ []) (spare ∷ close ∷ close ∷ [])))) took_p d_next
+    (omega arith) (ap (λ z. o ∷ z) (append_assoc tp (d ∷ spare ∷ []) (close ∷ close ∷ []) ∙ sym (append_assoc tp (d ∷ []) (spare ∷ close ∷ close ∷ [])))) took_p d_next
     (λ m le. brackets_shallow_to i.nested (length tp + 1 + 1 + 1) (parts_inside p.phrase one) fine (length tp) (omega arith)
     (λ v v_short. let first = inside-first p.phrase one v v_short in let low = p.shallow v v_short in omega (arith, first, low, count)) m (omega (arith, le)))
     (let at : length (o ∷ tp) + 1 ≡ 1 + (length tp + (1 + 0)) = omega arith in

@@ -6,7 +6,7 @@ use Rattle.sv_ast.specs.declared.expression.Sel.TheVariants as sel
 use Rattle.sv_ast.specs.declared.expression.Expr.{Expr}
 use Rattle.sv_ast.specs.declared.expression.Expr.TheVariants as e
 use Rattle.expr_parser.specs.Spelling.{is_this, is_identifier}
-use Rattle.expr_parser.specs.Grammar.{Between, down_to, up_from, down_from, Phrase, number, name, selected, ranged, tokens_of, tree_of, id_of, range_of, between_text, Is, IsPhrase, strength}
+use Rattle.expr_parser.specs.Grammar.{Between, down_to, up_from, down_from, Phrase, number, name, selected, ranged, tokens_of, tree_of, id_of, range_of, between_text, Is, IsPhrase, strength, signed_strength, full_strength}
 use Rattle.expr_parser.specs.Nesting.{nesting, operators, in_brackets, one_after, greatest_nesting}
 use Rattle.expr_parser.specs.Input.{Input, Parser, after, sees, and_then, refusal, expect}
 use Rattle.expr_parser.specs.Reading.{whole, select, select_from, selects, read}
@@ -20,7 +20,7 @@ use Rattle.expr_parser.proofs.Operators.{IsReader, IsOperand}
 use Rattle.expr_parser.proofs.Levels.{IsWhole, judged_whole}
 use Rattle.expr_parser.proofs.Primaries.{sign_token, close_select_is, select_fails, primary_at, brackets_shallow, brackets_shallow_to, range_shallow, brackets_one, opened, whole_took, whole_last, whole_nested, whole_stuck}
 
-inner-select : (least : ℕ) (i : Input) (fs : List Frame) (id o : Token) (j : Input) → least ≤ 12 → is_identifier id ≡ true → Is (codes "[") o
+inner-select : (least : ℕ) (i : Input) (fs : List Frame) (id o : Token) (j : Input) → least ≤ signed_strength → is_identifier id ≡ true → Is (codes "[") o
     → Took i.rest j.rest (id ∷ o ∷ []) → j.last ≡ i.last → j.nested ≡ i.nested + 1 → i.nested + 1 ≤ greatest_nesting → Inner least i fs 0 j (in_select id o ∷ fs)
 inner-select least i fs id o j small named is took last count fine = record {
   before = id ∷ o ∷ [];
@@ -28,7 +28,7 @@ inner-select least i fs id o j small named is took last count fine = record {
   wrap = λ q. selected id o q (sign_token (codes "]"));
   tokens = λ q. refl;
   grammar = λ q h g. (named, is, h, close_select_is);
-  fits = λ q g some. omega arith;
+  fits = λ q g. omega arith;
   nest = λ q m le.
       let at : 2 + m - 1 ≡ 1 + m = omega arith in
       ap (λ x. i.nested + in_brackets (length (tokens_of q)) (nesting q) x) at
@@ -43,7 +43,7 @@ inner-select least i fs id o j small named is took last count fine = record {
 
 -- the second expression of a select
 inner-range : (least : ℕ) (i : Input) (fs : List Frame) (w : Between) (id o : Token) (j : Input) (x : Expr) (k : Input) (p : IsWhole (in_select id o ∷ fs) j x k) (b : Token) (l : Input)
-    → least ≤ 12 → is_identifier id ≡ true → Is (codes "[") o → Is (between_text w) b → i.nested ≤ greatest_nesting
+    → least ≤ signed_strength → is_identifier id ≡ true → Is (codes "[") o → Is (between_text w) b → i.nested ≤ greatest_nesting
     → Took i.rest j.rest (id ∷ o ∷ []) → j.last ≡ i.last → j.nested ≡ i.nested + 1 → Took k.rest l.rest (b ∷ []) → l.last ≡ k.last → l.nested ≡ k.nested → l.nested ≤ greatest_nesting
     → Inner least i fs 0 l (in_range w id o (tree_of p.good.part.phrase) ∷ fs)
 inner-range least i fs w id o j x k whole_p b l small named is b_is fine took last count took_b last_b count_b within =
@@ -56,7 +56,7 @@ inner-range least i fs w id o j x k whole_p b l small named is b_is fine took la
       wrap = λ q. ranged w id o p.phrase b q (sign_token (codes "]"));
       tokens = λ q. ap (λ z. id ∷ o ∷ z) (append_assoc tp (b ∷ tokens_of q) (sign_token (codes "]") ∷ []) ∙ sym (append_assoc tp (b ∷ []) (tokens_of q ++ sign_token (codes "]") ∷ [])));
       grammar = λ q h g. (named, is, p.in_grammar, b_is, h, close_select_is);
-      fits = λ q g some. omega arith;
+      fits = λ q g. omega arith;
       nest = λ q m le.
           let len = length tp + 1 + length (tokens_of q) in
           let inner = one_after (length tp) (nesting p.phrase) (nesting q) in
@@ -85,7 +85,7 @@ pub record IsOpen (top : Input) (fs : List Frame) (id : Token) (i : Input) (foun
   pub tokens : (c : Token) → tokens_of (phrase c) ≡ body ++ c ∷ []
   pub grammar : (c : Token) → Is (codes "]") c → IsPhrase (phrase c)
   pub tree_is : (c : Token) → tree_of (phrase c) ≡ e.Read (id_of id) (found ∷ [])
-  pub strong : (c : Token) → strength (phrase c) ≡ 14
+  pub strong : (c : Token) → strength (phrase c) ≡ full_strength
   pub none : (c : Token) → operators (phrase c) ≡ 0
   pub took : Took i.rest k.rest body
   pub last_is : k.last ≡ i.last
@@ -97,7 +97,7 @@ range_ends : (w : Between) (id o : Token) (a : Expr) (fs : List Frame) (t : Toke
 range_ends w id o a fs t y h = rw h refl
 
 -- a select of two expressions, from the sign between on
-judged_range : (top : Input) (expr : ℕ → Parser Expr) (depth : ℕ) → IsReader top expr depth → (least : ℕ) → least ≤ 12 → (i : Input) (fs : List Frame) → Spot top least i fs
+judged_range : (top : Input) (expr : ℕ → Parser Expr) (depth : ℕ) → IsReader top expr depth → (least : ℕ) → least ≤ signed_strength → (i : Input) (fs : List Frame) → Spot top least i fs
     → greatest_nesting + 1 ≤ i.nested + suc depth → (w : Between) (id o : Token) → is_identifier id ≡ true → Is (codes "[") o → (j : Input) → Took i.rest j.rest (id ∷ o ∷ []) → j.last ≡ i.last
     → j.nested ≡ i.nested + 1 → j.nested ≤ greatest_nesting → (x : Expr) (k : Input) → IsWhole (in_select id o ∷ fs) j x k → (b : Token) → Next k.rest b → Is (between_text w) b
     → Judged top (IsOpen top fs id i) (and_then (whole expr (after k)) (λ y m. Ok (range_of w o.place x y, m)))
@@ -138,7 +138,7 @@ judged_range top expr depth reader least small i fs s enough w id o named is j t
 not_both : {b : Bool} → b ≡ false → b ≡ true → ⊥
 not_both h k = cc
 
-select_from_by : (top : Input) (expr : ℕ → Parser Expr) (depth : ℕ) → IsReader top expr depth → (least : ℕ) → least ≤ 12 → (i : Input) (fs : List Frame) → Spot top least i fs
+select_from_by : (top : Input) (expr : ℕ → Parser Expr) (depth : ℕ) → IsReader top expr depth → (least : ℕ) → least ≤ signed_strength → (i : Input) (fs : List Frame) → Spot top least i fs
     → greatest_nesting + 1 ≤ i.nested + suc depth → (id o : Token) → is_identifier id ≡ true → Is (codes "[") o → (j : Input) → Took i.rest j.rest (id ∷ o ∷ []) → j.last ≡ i.last
     → j.nested ≡ i.nested + 1 → j.nested ≤ greatest_nesting → Spot top 0 j (in_select id o ∷ fs) → (x : Expr) (k : Input) → IsWhole (in_select id o ∷ fs) j x k
     → (c d f : Bool) → sees (codes ":") k ≡ c → sees (codes "+:") k ≡ d → sees (codes "-:") k ≡ f
@@ -175,7 +175,7 @@ select_from_by top expr depth reader least small i fs s enough id o named is j t
           (λ t t_next. rw (sees-no (codes ":") k hc t t_next, sees-no (codes "+:") k hd t t_next, sees-no (codes "-:") k hf t t_next, no t t_next) refl);
     }
 
-judged_select : (top : Input) (expr : ℕ → Parser Expr) (depth : ℕ) → IsReader top expr depth → (least : ℕ) → least ≤ 12 → (i : Input) (fs : List Frame) → Spot top least i fs
+judged_select : (top : Input) (expr : ℕ → Parser Expr) (depth : ℕ) → IsReader top expr depth → (least : ℕ) → least ≤ signed_strength → (i : Input) (fs : List Frame) → Spot top least i fs
     → greatest_nesting + 1 ≤ i.nested + suc depth → (id o : Token) → Next i.rest id → is_identifier id ≡ true → Next (after i).rest o → Is (codes "[") o
     → Judged top (λ found k. IsOperand fs i (e.Read (id_of id) (found ∷ [])) k) (select expr (after i))
 unfolding select
@@ -184,7 +184,7 @@ judged_select top expr depth reader least small i fs s enough id o id_next named
     let good : Sel → Input → Type 0 = λ found k. IsOperand fs i (e.Read (id_of id) (found ∷ [])) k in
     let over = selected id o (number spare) (sign_token (codes "]")) in
     opened top (after i) (codes "[") o good _ o_next is
-    (λ full. deep_at top least i fs s (after i) over (id ∷ []) o (spare ∷ sign_token (codes "]") ∷ []) (named, is, refl, close_select_is) (λ some. omega arith) refl
+    (λ full. deep_at top least i fs s (after i) over (id ∷ []) o (spare ∷ sign_token (codes "]") ∷ []) (named, is, refl, close_select_is) (omega arith) refl
     (Took-after i id id_next) o_next
     (λ m le. brackets_one i.nested (in_brackets 1 (nesting (number spare))) refl fine m le)
     (let one = in_brackets-at 1 (nesting (number spare)) 0 (omega arith) in omega (arith, one, after-nested i, full)))
@@ -212,7 +212,7 @@ judged_select top expr depth reader least small i fs s enough id o id_next named
     (λ y le. open_it.shallow c y)
     (λ t t_next t_is. ap (step t) (open_it.has_it c c_is) ∙ select_fails t t_is (tree_of (open_it.phrase c)) fs)))))
 
-read_by : (top : Input) (expr : ℕ → Parser Expr) (depth : ℕ) → IsReader top expr depth → (least : ℕ) → least ≤ 12 → (i : Input) (fs : List Frame) → Spot top least i fs
+read_by : (top : Input) (expr : ℕ → Parser Expr) (depth : ℕ) → IsReader top expr depth → (least : ℕ) → least ≤ signed_strength → (i : Input) (fs : List Frame) → Spot top least i fs
     → greatest_nesting + 1 ≤ i.nested + suc depth → (id : Token) → Next i.rest id → is_identifier id ≡ true → (c : Bool) → sees (codes "[") (after i) ≡ c
     → Judged top (IsOperand fs i) (and_then (if c then and_then (select expr (after i)) (λ found k. Ok (found ∷ [], k)) else Ok ([], after i)) (λ found k. Ok (e.Read (id_of id) found, k)))
 read_by top expr depth reader least small i fs s enough id id_next named false h =
@@ -226,7 +226,7 @@ read_by top expr depth reader least small i fs s enough id id_next named true h 
     (judged_select top expr depth reader least small i fs s enough id found.0 id_next named found.1.0 found.1.1) (λ x k h2. h2))
     (λ xs k h2. h2)
 
-pub judged_read : (top : Input) (expr : ℕ → Parser Expr) (depth : ℕ) → IsReader top expr depth → (least : ℕ) → least ≤ 12 → (i : Input) (fs : List Frame) → Spot top least i fs
+pub judged_read : (top : Input) (expr : ℕ → Parser Expr) (depth : ℕ) → IsReader top expr depth → (least : ℕ) → least ≤ signed_strength → (i : Input) (fs : List Frame) → Spot top least i fs
     → greatest_nesting + 1 ≤ i.nested + suc depth → (id : Token) → Next i.rest id → is_identifier id ≡ true → Judged top (IsOperand fs i) (read expr i)
 unfolding read selects
 judged_read top expr depth reader least small i fs s enough id id_next named =

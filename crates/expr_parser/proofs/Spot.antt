@@ -4,8 +4,8 @@ use Rattle.std.proofs.lemmas.Bool.Decides.{leb_tells}
 use Rattle.sv_lexer.specs.declared.token.Token.{Token}
 use Rattle.sv_base.specs.declared.refusal.Refusal.{Refusal}
 use Rattle.sv_ast.specs.declared.expression.Expr.{Expr}
-use Rattle.expr_parser.specs.declared.fault.ParseFault.{ParseFault}
-use Rattle.expr_parser.specs.declared.fault.ParseFault.TheVariants.{Refused, NoMemory}
+use Rattle.sv_base.specs.declared.fault.Fault.{Fault}
+use Rattle.sv_base.specs.declared.fault.Fault.TheVariants.{Refused, NoMemory}
 use Rattle.expr_parser.specs.Grammar.{Phrase, tokens_of, IsPhrase, strength}
 use Rattle.expr_parser.specs.Nesting.{nesting, greatest_nesting}
 use Rattle.expr_parser.specs.Outcome.{refusal_at, nesting_refusal, BeginsWith, IsShallow}
@@ -14,9 +14,9 @@ use Rattle.expr_parser.proofs.Machine.{Frame, wants, failed, reduce, step, steps
 use Rattle.expr_parser.proofs.Took.{Took, Took-then}
 use Rattle.expr_parser.proofs.Complete.{Holds, steps-append}
 
--- strong enough for an operand of a sign that binds so; any phrase is where there is no sign
+-- holds together at least so tightly
 abbrev pub Fits : ℕ → Phrase → Type 0
-Fits least p = 0 < least → least < strength p
+Fits least p = least ≤ strength p
 
 -- ---- how a reading of the top ends in a refusal
 
@@ -45,7 +45,7 @@ pub record Deep (top : Input) (r : Refusal) : Type 0 where
   pub reached : top.nested + nesting phrase (length run + 1) ≡ greatest_nesting + 1
   pub refused : r ≡ nesting_refusal deep
 
-abbrev pub IsFinal : Input → ParseFault → Type 0
+abbrev pub IsFinal : Input → Fault → Type 0
 IsFinal top (Refused r) = Stuck top r ⊎ Deep top r
 IsFinal top NoMemory = ⊥
 

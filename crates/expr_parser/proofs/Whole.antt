@@ -6,7 +6,7 @@ use Rattle.sv_lexer.specs.declared.token.TokenKind.TheVariants as kind
 use Rattle.sv_ast.specs.declared.expression.Expr.{Expr}
 use Rattle.sv_ast.specs.declared.expression.Expr.TheVariants as e
 use Rattle.expr_parser.specs.Spelling.{is_this, is_unary, is_identifier, is_function, is_number, is_fill}
-use Rattle.expr_parser.specs.Grammar.{number, concat, only, Is}
+use Rattle.expr_parser.specs.Grammar.{number, concat, only, Is, signed_strength}
 use Rattle.expr_parser.specs.Nesting.{nesting, greatest_nesting}
 use Rattle.expr_parser.specs.Input.{Input, Outcome, Parser, past_marks, front_of, after, next, ahead, sees, and_then, take_id, refusal, refuse, expect}
 use Rattle.expr_parser.specs.Reading.{whole, read, system, parenthesised, repeated, braced_from, braced, primary, primary_by}
@@ -25,7 +25,7 @@ use Rattle.expr_parser.proofs.Lists.{first_inner}
 use Rattle.expr_parser.proofs.Braces.{close_brace_is, concat_place, IsBraced, judged_concat}
 use Rattle.expr_parser.proofs.Repeats.{judged_repeat}
 
-braced_by : (top : Input) (expr : ℕ → Parser Expr) (depth : ℕ) → IsReader top expr depth → (least : ℕ) → least ≤ 12 → (i : Input) (fs : List Frame) → Spot top least i fs
+braced_by : (top : Input) (expr : ℕ → Parser Expr) (depth : ℕ) → IsReader top expr depth → (least : ℕ) → least ≤ signed_strength → (i : Input) (fs : List Frame) → Spot top least i fs
     → greatest_nesting + 1 ≤ i.nested + suc depth → (o : Token) → Is (codes "{") o → (j : Input) → Took i.rest j.rest (o ∷ []) → j.last ≡ i.last → j.nested ≡ i.nested + 1 → j.nested ≤ greatest_nesting
     → (x : Expr) (k : Input) → IsWhole (in_braces o [] ∷ fs) j x k → (c : Bool) → sees (codes "{") k ≡ c
     → Judged top (IsBraced top fs i)
@@ -36,14 +36,14 @@ braced_by top expr depth reader least small i fs s enough o is j took last count
     let found = sees-yes (codes "{") k h in
     judged_repeat top expr depth reader least small i fs s enough o is j took last count within x k w found.0 found.1.0 found.1.1
 
-judged_braced : (top : Input) (expr : ℕ → Parser Expr) (depth : ℕ) → IsReader top expr depth → (least : ℕ) → least ≤ 12 → (i : Input) (fs : List Frame) → Spot top least i fs
+judged_braced : (top : Input) (expr : ℕ → Parser Expr) (depth : ℕ) → IsReader top expr depth → (least : ℕ) → least ≤ signed_strength → (i : Input) (fs : List Frame) → Spot top least i fs
     → greatest_nesting + 1 ≤ i.nested + suc depth → (o : Token) → Next i.rest o → Is (codes "{") o → Judged top (IsOperand fs i) (braced expr i)
 unfolding braced
 judged_braced top expr depth reader least small i fs s enough o o_next is =
     let fine = spot-small top least i fs s in
     let over = concat o (only (number spare)) (sign_token (codes "}")) in
     opened top i (codes "{") o (IsOperand fs i) _ o_next is
-    (λ full. deep_at top least i fs s i over [] o (spare ∷ sign_token (codes "}") ∷ []) (is, refl, close_brace_is) (λ some. omega arith) refl (Took-none i.rest) o_next
+    (λ full. deep_at top least i fs s i over [] o (spare ∷ sign_token (codes "}") ∷ []) (is, refl, close_brace_is) (omega arith) refl (Took-none i.rest) o_next
     (λ k le. one_shallow_none i over refl fine k le)
     (let one = in_brackets-at 1 (nesting (number spare)) 0 (omega arith) in omega (arith, one, full)))
     (λ j took last count within.
@@ -95,10 +95,10 @@ no_start_by kind.Sign t a b c d f g h = rw (f, g, h) refl
 no_start_by kind.Mark t a b c d f g h = refl
 
 -- nothing was read, and an operand is wanted
-wanted_stuck : (top : Input) (least : ℕ) (i : Input) (fs : List Frame) → least ≤ 12 → Spot top least i fs → ((t : Token) → Next i.rest t → start_of t ≡ no_start) → IsFinal top (refusal i)
+wanted_stuck : (top : Input) (least : ℕ) (i : Input) (fs : List Frame) → least ≤ signed_strength → Spot top least i fs → ((t : Token) → Next i.rest t → start_of t ≡ no_start) → IsFinal top (refusal i)
 wanted_stuck top least i fs small s none =
     let fine = spot-small top least i fs s in
-    stuck_at top least i fs s i (number spare) [] (spare ∷ []) refl (λ some. omega arith) refl (Took-none i.rest) refl
+    stuck_at top least i fs s i (number spare) [] (spare ∷ []) refl (omega arith) refl (Took-none i.rest) refl
     (λ k le. omega arith) (λ t t_next. ap (λ z. begun z t fs) (none t t_next)) (λ x gs is. absurd (no_operand (x, gs) is))
 
 next_same : (o : Option Token) (t u : Token) → o ≡ Some t → o ≡ Some u → t ≡ u
@@ -136,7 +136,7 @@ by_kind false false true d top fs i expr h = h
 by_kind false false false true top fs i expr h = h
 by_kind false false false false top fs i expr h = h
 
-primary_some : (top : Input) (expr : ℕ → Parser Expr) (depth : ℕ) → IsReader top expr depth → (least : ℕ) → least ≤ 12 → (i : Input) (fs : List Frame) → Spot top least i fs
+primary_some : (top : Input) (expr : ℕ → Parser Expr) (depth : ℕ) → IsReader top expr depth → (least : ℕ) → least ≤ signed_strength → (i : Input) (fs : List Frame) → Spot top least i fs
     → greatest_nesting + 1 ≤ i.nested + suc depth → (t : Token) → Next i.rest t → is_unary t ≡ false
     → (a b c d g h : Bool) → is_number t.kind ≡ a → is_fill t.kind ≡ b → is_identifier t ≡ c → is_function t ≡ d → sees (codes "(") i ≡ g → sees (codes "{") i ≡ h
     → Judged top (IsOperand fs i)
@@ -167,7 +167,7 @@ primary_some top expr depth reader least small i fs s enough t t_next sign false
     let P : Token → Type 0 = λ v. start_of v ≡ no_start in
     subst P same (none_starts t ha hb hc hd sign (sees-no (codes "(") i hg t t_next) (sees-no (codes "{") i hh t t_next)))
 
-primary_at_next : (top : Input) (expr : ℕ → Parser Expr) (depth : ℕ) → IsReader top expr depth → (least : ℕ) → least ≤ 12 → (i : Input) (fs : List Frame) → Spot top least i fs
+primary_at_next : (top : Input) (expr : ℕ → Parser Expr) (depth : ℕ) → IsReader top expr depth → (least : ℕ) → least ≤ signed_strength → (i : Input) (fs : List Frame) → Spot top least i fs
     → greatest_nesting + 1 ≤ i.nested + suc depth → NoSign i → (o : Option Token) → front_of (past_marks i.rest) ≡ o → Judged top (IsOperand fs i) (primary_by expr o i)
 primary_at_next top expr depth reader least small i fs s enough no_sign None is =
     wanted_stuck top least i fs small s (λ t t_next. absurd (nothing_next t (sym is ∙ t_next)))

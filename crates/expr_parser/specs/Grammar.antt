@@ -1,5 +1,6 @@
 -- The grammar of expressions (IEEE 1800-2017, 11.2 to 11.4): which tokens are which expression.
-use Rattle.std.specs.Prelude.{◌≡◌, ◌<◌, ◌≤◌, ℕ, true, List, [], ◌∷◌, ◌++◌, codes}
+use Rattle.std.specs.Prelude.{◌≡◌, ◌+◌, ◌<◌, ◌≤◌, ℕ, true, List, [], ◌∷◌, ◌++◌, codes}
+use Rattle.sv_base.specs.declared.operator.TheConstants.{TIGHTEST}
 use Rattle.sv_base.specs.declared.refusal.Place.{Place}
 use Rattle.sv_lexer.specs.declared.token.TokenKind.TheVariants as kind
 use Rattle.sv_lexer.specs.declared.token.Token.{Token}
@@ -8,7 +9,7 @@ use Rattle.sv_ast.specs.declared.expression.Sel.{Sel}
 use Rattle.sv_ast.specs.declared.expression.Sel.TheVariants as sel
 use Rattle.sv_ast.specs.declared.expression.Expr.{Expr}
 use Rattle.sv_ast.specs.declared.expression.Expr.TheVariants as e
-use Rattle.expr_parser.specs.Spelling.{is_identifier, is_function, is_unary, is_this, binds}
+use Rattle.expr_parser.specs.Spelling.{is_identifier, is_function, is_unary, is_this, binds, left_least, right_least}
 
 -- what stands between the two expressions of a select: `:`, `+:` or `-:` (11.5.1)
 pub data Between : Type 0 where
@@ -92,13 +93,21 @@ abbrev mutual
 
 -- ---- which phrases the grammar has
 
--- how tightly a phrase holds together: `? :` least, then the signs between operands, the signs before one, and what has
+-- what has a sign before an operand holds tighter than every operator between two
+abbrev pub signed_strength : ℕ
+signed_strength = TIGHTEST + 1
+
+-- what has no sign outside brackets holds tightest
+abbrev pub full_strength : ℕ
+full_strength = TIGHTEST + 2
+
+-- how tightly a phrase holds together: `? :` least, then the operators between two operands, a sign before one, and what has
 -- no sign outside brackets
 abbrev pub strength : Phrase → ℕ
 strength (choice p question q colon r) = 0
 strength (binary p sign q) = binds sign
-strength (unary sign p) = 13
-strength _ = 14
+strength (unary sign p) = signed_strength
+strength _ = full_strength
 
 -- the sign between the two expressions of a select
 abbrev pub between_text : Between → List ℕ
@@ -111,7 +120,7 @@ abbrev pub Is : List ℕ → Token → Type 0
 Is text token = is_this text token ≡ true
 
 -- Each token is one that the grammar has in its place, and the operators are grouped as they bind: those between two
--- operands to the left, `? :` to the right (11.3.2).
+-- operands of one level as the level is, `? :` to the right (11.3.2).
 abbrev mutual
   pub IsPhrase : Phrase → Type 0
   IsPhrase (number t) = t.kind ≡ kind.Number
@@ -125,8 +134,9 @@ abbrev mutual
   IsPhrase (repeat opens p inner ps done closes) =
       Is (codes "{") opens × IsPhrase p × Is (codes "{") inner × ArePhrases ps × Is (codes "}") done × Is (codes "}") closes
   IsPhrase (call function opens p closes) = (is_function function ≡ true) × Is (codes "(") opens × IsPhrase p × Is (codes ")") closes
-  IsPhrase (unary sign p) = (is_unary sign ≡ true) × IsPhrase p × (13 ≤ strength p)
-  IsPhrase (binary p sign q) = (0 < binds sign) × IsPhrase p × (binds sign ≤ strength p) × IsPhrase q × (binds sign < strength q)
+  IsPhrase (unary sign p) = (is_unary sign ≡ true) × IsPhrase p × (signed_strength ≤ strength p)
+  IsPhrase (binary p sign q) =
+      (0 < binds sign) × IsPhrase p × (left_least sign ≤ strength p) × IsPhrase q × (right_least sign ≤ strength q)
   IsPhrase (choice p question q colon r) =
       Is (codes "?") question × IsPhrase p × (0 < strength p) × IsPhrase q × Is (codes ":") colon × IsPhrase r
 

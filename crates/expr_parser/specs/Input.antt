@@ -4,8 +4,8 @@ use Rattle.sv_base.specs.declared.refusal.Place.{Place}
 use Rattle.sv_base.specs.declared.refusal.Refusal.{Refusal}
 use Rattle.sv_lexer.specs.declared.token.Token.{Token}
 use Rattle.sv_ast.specs.declared.expression.Id.{Id}
-use Rattle.expr_parser.specs.declared.fault.ParseFault.{ParseFault}
-use Rattle.expr_parser.specs.declared.fault.ParseFault.TheVariants.{Refused, NoMemory}
+use Rattle.sv_base.specs.declared.fault.Fault.{Fault}
+use Rattle.sv_base.specs.declared.fault.Fault.TheVariants.{Refused, NoMemory}
 use Rattle.expr_parser.specs.Spelling.{is_mark, is_this}
 use Rattle.expr_parser.specs.Grammar.{id_of}
 use Rattle.expr_parser.specs.Nesting.{greatest_nesting}
@@ -53,7 +53,7 @@ sees text i = is_some_this text (next i)
 -- ---- parsers
 
 abbrev pub Outcome : Type 0 → Type 0
-Outcome A = Result (A × Input) ParseFault
+Outcome A = Result (A × Input) Fault
 
 abbrev pub Parser : Type 0 → Type 0
 Parser A = Input → Outcome A
@@ -78,7 +78,7 @@ abbrev pub ◌<$>◌ : {A B : Type 0} → (A → B) → Parser A → Parser B
 f <$> p = p >>= (λ x. pure (f x))
 
 -- why the next token does not fit
-unfoldable pub refusal : Input → ParseFault
+unfoldable pub refusal : Input → Fault
 refusal i = Refused (refusal_at i.last (ahead i))
 
 abbrev pub refuse : {A : Type 0} → Parser A
@@ -108,7 +108,7 @@ deep_refusal last [] = refusal_at last []
 deep_refusal last (t ∷ ts) = nesting_refusal t
 
 -- that the next token is nested too deep
-unfoldable pub too_deep : Input → ParseFault
+unfoldable pub too_deep : Input → Fault
 too_deep i = Refused (deep_refusal i.last (ahead i))
 
 -- one more is open, from the next token on
@@ -128,11 +128,11 @@ turns i = length i.rest
 
 -- ---- what a function ensures that makes a fault: this one, unless memory ran out
 
-abbrev pub IsFault : ParseFault → ParseFault → Type 0
+abbrev pub IsFault : Fault → Fault → Type 0
 IsFault fault wanted = fault ≢ NoMemory → fault ≡ wanted
 
 -- ---- what a function that parses ensures: the parser's outcome, unless memory ran out
 
-abbrev pub Gives : {A : Type 0} → Outcome A → Result A ParseFault → Input → Type 0
+abbrev pub Gives : {A : Type 0} → Outcome A → Result A Fault → Input → Type 0
 Gives outcome (Ok a) new = outcome ≡ Ok (a, new)
 Gives outcome (Err e) new = e ≢ NoMemory → outcome ≡ Err e

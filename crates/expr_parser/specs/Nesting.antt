@@ -1,10 +1,11 @@
 -- How deep a text is nested at one of its tokens.
 use Rattle.std.specs.Prelude.{ℕ, ◌+◌, ◌-◌, ◌==◌, nat_le, if◌then◌else◌, length}
+use Rattle.expr_parser.specs.declared.cursor.TheConstants.{NESTING_LIMIT}
 use Rattle.expr_parser.specs.Grammar.{Phrase, number, fill, name, selected, ranged, group, concat, repeat, call, unary, binary, choice, Phrases, only, more, tokens_of, all_tokens_of}
 
 -- the greatest open nesting
 abbrev pub greatest_nesting : ℕ
-greatest_nesting = 256
+greatest_nesting = NESTING_LIMIT
 
 -- the operators of a phrase outside its brackets; `? :` is one, and each sign before an operand is one
 abbrev pub operators : Phrase → ℕ

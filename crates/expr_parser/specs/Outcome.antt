@@ -5,8 +5,6 @@ use Rattle.sv_base.specs.declared.refusal.Place.{Place}
 use Rattle.sv_base.specs.declared.refusal.Refusal.{Refusal}
 use Rattle.sv_lexer.specs.declared.token.Token.{Token}
 use Rattle.sv_ast.specs.declared.expression.Expr.{Expr}
-use Rattle.expr_parser.specs.declared.fault.ParseFault.{ParseFault}
-use Rattle.expr_parser.specs.declared.fault.ParseFault.TheVariants as fault
 use Rattle.expr_parser.specs.Spelling.{is_mark, is_refused}
 use Rattle.expr_parser.specs.Grammar.{Phrase, IsPhrase, tokens_of, tree_of, Reads}
 use Rattle.expr_parser.specs.Nesting.{nesting, greatest_nesting}
@@ -91,7 +89,7 @@ pub record IsStuck (tokens : List Token) (at depth : ℕ) (refusal : Refusal) : 
 abbrev pub nesting_refusal : Token → Refusal
 nesting_refusal t = record { kind = kind.TooMany; place = t.place; name = codes "nesting" }
 
--- The open nesting is 257 at a token of the run, and at no token before it.
+-- The open nesting is one too great at a token of the run, and at no token before it.
 pub record IsTooDeep (tokens : List Token) (at depth : ℕ) (refusal : Refusal) : Type 0 where
   pub front : List Token
   pub deep : Token
@@ -106,8 +104,3 @@ pub record IsTooDeep (tokens : List Token) (at depth : ℕ) (refusal : Refusal) 
 -- what is refused: the token after the run, or a token of the run that is nested too deep
 abbrev pub IsRefused : List Token → ℕ → ℕ → Refusal → Type 0
 IsRefused tokens at depth refusal = IsStuck tokens at depth refusal ⊎ IsTooDeep tokens at depth refusal
-
--- a fault is that refusal; memory may run out at any tokens
-abbrev pub IsFaultOf : List Token → ℕ → ℕ → ParseFault → Type 0
-IsFaultOf tokens at depth (fault.Refused refusal) = IsRefused tokens at depth refusal
-IsFaultOf tokens at depth fault.NoMemory = Unit {0}

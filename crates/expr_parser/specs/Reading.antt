@@ -1,5 +1,5 @@
 -- Reading an expression from tokens, from left to right.
-use Rattle.std.specs.Prelude.{ℕ, zero, suc, ◌==◌, Bool, false, if◌then◌else◌, nat_le, List, [], ◌∷◌, ◌++◌, codes, Option, Some, None, Ok}
+use Rattle.std.specs.Prelude.{ℕ, zero, suc, ◌+◌, ◌==◌, Bool, false, if◌then◌else◌, ◌||◌, nat_lt, List, [], ◌∷◌, ◌++◌, codes, Option, Some, None, Ok}
 use Rattle.sv_base.specs.declared.refusal.Place.{Place}
 use Rattle.sv_lexer.specs.declared.token.Token.{Token}
 use Rattle.sv_ast.specs.declared.expression.Id.{Id}
@@ -7,13 +7,24 @@ use Rattle.sv_ast.specs.declared.expression.Sel.{Sel}
 use Rattle.sv_ast.specs.declared.expression.Sel.TheVariants as sel
 use Rattle.sv_ast.specs.declared.expression.Expr.{Expr}
 use Rattle.sv_ast.specs.declared.expression.Expr.TheVariants as e
-use Rattle.expr_parser.specs.Spelling.{is_identifier, is_function, is_unary, is_number, is_fill, binds}
+use Rattle.expr_parser.specs.Spelling.{is_identifier, is_function, is_unary, is_number, is_fill, binds, right_least}
+use Rattle.expr_parser.specs.Grammar.{signed_strength}
+use Rattle.expr_parser.specs.Nesting.{greatest_nesting}
 use Rattle.expr_parser.specs.Input.{Parser, ◌>>=◌, ◌>>◌, ◌<$>◌, pure, refuse, next, sees, skip, take_id, expect, rise, enter, leave, turns}
 
 -- how tightly the next token binds between two operands
 abbrev pub binds_next : Option Token → ℕ
 binds_next None = 0
 binds_next (Some t) = binds t
+
+-- how tightly the operand behind the next token holds together at least
+abbrev pub right_least_next : Option Token → ℕ
+right_least_next None = 0
+right_least_next (Some t) = right_least t
+
+-- whether no operator that binds so stands in an expression that holds together at least so tightly, where 0 is none
+abbrev pub is_looser : ℕ → ℕ → Bool
+is_looser level least = level == 0 || nat_lt level least
 
 -- whether the next token may stand before an operand
 abbrev pub is_unary_next : Option Token → Bool
@@ -24,7 +35,7 @@ is_unary_next (Some t) = is_unary t
 abbrev pub opening : List ℕ → Parser Id
 opening text = λ i. if sees text i then (rise >> take_id) i else refuse i
 
--- The number says what is read: operators that bind tighter than it, and `? :` too where it is 0.
+-- The number says what is read: an expression that holds together at least so tightly, thus `? :` only where it is 0.
 module _ (expr : ℕ → Parser Expr) where
   -- a whole expression, whose operators no longer count behind it
   unfoldable pub whole : Parser Expr
@@ -130,25 +141,25 @@ module _ (expr : ℕ → Parser Expr) where
   prefixed = do
     rise
     sign ← take_id
-    operand ← expr 12
+    operand ← expr signed_strength
     pure (e.Unary sign operand)
 
   unfoldable pub operand : Parser Expr
   operand = λ i. if is_unary_next (next i) then prefixed i else primary i
 
-  -- the sign that comes next and its second operand
+  -- the operator that comes next and its second operand
   unfoldable pub operation : Expr → ℕ → Parser Expr
-  operation left level = do
+  operation left least = do
     rise
     sign ← take_id
-    right ← expr level
+    right ← expr least
     pure (e.Binary sign left right)
 
   unfoldable pub climb : ℕ → ℕ → Expr → Parser Expr
   climb least zero left = pure left
   climb least (suc n) left = λ i.
-      if nat_le (binds_next (next i)) least then Ok (left, i)
-      else (operation left (binds_next (next i)) >>= climb least n) i
+      if is_looser (binds_next (next i)) least then Ok (left, i)
+      else (operation left (right_least_next (next i)) >>= climb least n) i
 
   unfoldable pub operations : ℕ → Expr → Parser Expr
   operations least left = λ i. climb least (turns i) left i
@@ -174,6 +185,6 @@ unfoldable pub expr : ℕ → ℕ → Parser Expr
 expr zero least = refuse
 expr (suc depth) least = level (expr depth) least
 
--- Each expression inside another has an operator or a bracket before it that counts, so there are at most 257.
+-- Each expression inside another has an operator or a bracket before it that counts, so there is at most one more than may be open.
 abbrev pub any : Parser Expr
-any = whole (expr 257)
+any = whole (expr (greatest_nesting + 1))

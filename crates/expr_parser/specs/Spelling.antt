@@ -1,43 +1,34 @@
 -- What tokens are to the grammar of expressions, by their kind and spelling.
-use Rattle.std.specs.Prelude.{ℕ, Bool, true, false, not, ◌&&◌, if◌then◌else◌, List, [], ◌∷◌, codes}
+use Rattle.std.specs.Prelude.{ℕ, ◌+◌, Bool, true, false, not, ◌&&◌, if◌then◌else◌, List, Option, None, Some}
 use Rattle.std.specs.List.{list_any}
+use Rattle.std.specs.Option.{is_some}
 use Rattle.std.specs.Str.{bytes_eq}
+use Rattle.sv_base.specs.declared.operator.Binary.{Binary}
+use Rattle.sv_base.specs.declared.operator.Grouping.{Grouping}
+use Rattle.sv_base.specs.declared.operator.Grouping.TheVariants.{ToTheLeft, ToTheRight}
+use Rattle.sv_base.specs.Operators.{unary_of, binary_of, function_of, is_refused_operator, level_of, tightness, grouping_of}
 use Rattle.sv_base.specs.Spelling.{refused_words, is_reserved}
 use Rattle.sv_lexer.specs.declared.token.TokenKind.{TokenKind}
 use Rattle.sv_lexer.specs.declared.token.TokenKind.TheVariants as kind
 use Rattle.sv_lexer.specs.declared.token.Token.{Token}
 
--- the system functions of the subset (20.5, 20.8.1)
-abbrev pub system_names : List (List ℕ)
-system_names = codes "$clog2" ∷ codes "$signed" ∷ codes "$unsigned" ∷ []
-
--- the signs of the standard outside the subset (11.4.5)
-abbrev pub refused_signs : List (List ℕ)
-refused_signs = codes "===" ∷ codes "!==" ∷ []
-
--- the signs that stand before an operand (11.4.3, 11.4.7 to 11.4.9)
-abbrev pub unary_signs : List (List ℕ)
-unary_signs = codes "+" ∷ codes "-" ∷ codes "!" ∷ codes "~" ∷ codes "&" ∷ codes "~&" ∷ codes "|" ∷ codes "~|" ∷ codes "^" ∷ codes "~^" ∷ codes "^~" ∷ []
-
 -- one of these
 abbrev pub is_among : List (List ℕ) → List ℕ → Bool
 is_among texts text = list_any (bytes_eq text) texts
 
--- How tightly a sign between two operands binds, 11 the tightest, and 0 for any other text (11.3.2).
+-- how tightly an operator between two operands binds, and 0 where there is none (11.3.2)
+abbrev pub tightness_of : Option Binary → ℕ
+tightness_of None = 0
+tightness_of (Some operator) = tightness (level_of operator)
+
+-- how operators beside one of its level are grouped, as if to the left where there is none (11.3.2)
+abbrev pub grouping_by : Option Binary → Grouping
+grouping_by None = ToTheLeft
+grouping_by (Some operator) = grouping_of (level_of operator)
+
+-- how tightly a text binds between two operands, and 0 where it is no such operator
 unfoldable pub precedence : List ℕ → ℕ
-precedence text =
-    if is_among (codes "**" ∷ []) text then 11
-    else (if is_among (codes "*" ∷ codes "/" ∷ codes "%" ∷ []) text then 10
-    else (if is_among (codes "+" ∷ codes "-" ∷ []) text then 9
-    else (if is_among (codes "<<" ∷ codes ">>" ∷ codes "<<<" ∷ codes ">>>" ∷ []) text then 8
-    else (if is_among (codes "<" ∷ codes "<=" ∷ codes ">" ∷ codes ">=" ∷ []) text then 7
-    else (if is_among (codes "==" ∷ codes "!=" ∷ []) text then 6
-    else (if is_among (codes "&" ∷ []) text then 5
-    else (if is_among (codes "^" ∷ codes "~^" ∷ codes "^~" ∷ []) text then 4
-    else (if is_among (codes "|" ∷ []) text then 3
-    else (if is_among (codes "&&" ∷ []) text then 2
-    else (if is_among (codes "||" ∷ []) text then 1
-    else 0))))))))))
+precedence text = tightness_of (binary_of text)
 
 -- ---- tokens
 
@@ -95,11 +86,11 @@ is_identifier token = is_word token.kind && not (is_reserved token.text)
 
 -- a system function of the subset
 unfoldable pub is_function : Token → Bool
-is_function token = is_system token.kind && is_among system_names token.text
+is_function token = is_system token.kind && is_some (function_of token.text)
 
 -- a sign before an operand
 unfoldable pub is_unary : Token → Bool
-is_unary token = is_sign token.kind && is_among unary_signs token.text
+is_unary token = is_sign token.kind && is_some (unary_of token.text)
 
 -- this sign
 unfoldable pub is_this : List ℕ → Token → Bool
@@ -109,11 +100,33 @@ is_this text token = is_sign token.kind && bytes_eq token.text text
 unfoldable pub binds : Token → ℕ
 binds token = if is_sign token.kind then precedence token.text else 0
 
+-- how operators beside a token are grouped
+unfoldable pub grouping : Token → Grouping
+grouping token = if is_sign token.kind then grouping_by (binary_of token.text) else ToTheLeft
+
+-- where operators are grouped to the left, the left operand may be one of the same level, and the right one holds tighter
+abbrev pub least_left : Grouping → ℕ → ℕ
+least_left ToTheLeft level = level
+least_left ToTheRight level = level + 1
+
+-- where they are grouped to the right, the right operand may be one of the same level, and the left one holds tighter
+abbrev pub least_right : Grouping → ℕ → ℕ
+least_right ToTheLeft level = level + 1
+least_right ToTheRight level = level
+
+-- how tightly the left operand of an operator between two holds together at least
+unfoldable pub left_least : Token → ℕ
+left_least token = least_left (grouping token) (binds token)
+
+-- how tightly its right operand holds together at least
+unfoldable pub right_least : Token → ℕ
+right_least token = least_right (grouping token) (binds token)
+
 -- a word, system name or sign of the standard outside the subset
 abbrev pub is_refused_by : TokenKind → List ℕ → Bool
 is_refused_by kind.Word text = is_among refused_words text
-is_refused_by kind.System text = not (is_among system_names text)
-is_refused_by kind.Sign text = is_among refused_signs text
+is_refused_by kind.System text = not (is_some (function_of text))
+is_refused_by kind.Sign text = is_refused_operator text
 is_refused_by kind.Number text = false
 is_refused_by kind.Fill text = false
 is_refused_by kind.Mark text = false

@@ -3,8 +3,8 @@ use Rattle.std.specs.Prelude.{◌≡◌, ◌≢◌, ◌⊎◌, ℕ, ◌+◌, ◌
 use Rattle.sv_base.specs.declared.refusal.Refusal.{Refusal}
 use Rattle.sv_lexer.specs.declared.token.Token.{Token}
 use Rattle.sv_ast.specs.declared.expression.Expr.{Expr}
-use Rattle.expr_parser.specs.declared.fault.ParseFault.{ParseFault}
-use Rattle.expr_parser.specs.declared.fault.ParseFault.TheVariants.{Refused, NoMemory}
+use Rattle.sv_base.specs.declared.fault.Fault.{Fault}
+use Rattle.sv_base.specs.declared.fault.Fault.TheVariants.{Refused, NoMemory}
 use Rattle.expr_parser.specs.Spelling.{is_mark, is_this, binds}
 use Rattle.expr_parser.specs.Grammar.{Phrase, IsPhrase, tokens_of, tree_of, Reads}
 use Rattle.expr_parser.specs.Nesting.{nesting, greatest_nesting}
@@ -56,15 +56,14 @@ pub record TooDeepAt (i : Input) (r : Refusal) : Type 0 where
   pub reached : i.nested + nesting phrase (length (grammar_tokens front) + 1) ≡ greatest_nesting + 1
   pub refused : r ≡ nesting_refusal deep
 
--- what is refused from here; the definition of reading never runs out of memory
-abbrev pub RefusesAt : Input → ParseFault → Type 0
-RefusesAt i (Refused r) = StopsAt i r ⊎ TooDeepAt i r
-RefusesAt i NoMemory = ⊥
+-- what is refused from here: the token after the run, or a token of the run that is nested too deep
+abbrev pub IsRefusedAt : Input → Refusal → Type 0
+IsRefusedAt i r = StopsAt i r ⊎ TooDeepAt i r
 
--- a fault is that refusal; memory may run out at any tokens
-abbrev pub IsFaultAt : Input → ParseFault → Type 0
-IsFaultAt i (Refused r) = StopsAt i r ⊎ TooDeepAt i r
-IsFaultAt i NoMemory = Unit {0}
+-- that refusal; the definition of reading never runs out of memory
+abbrev pub RefusesAt : Input → Fault → Type 0
+RefusesAt i (Refused r) = IsRefusedAt i r
+RefusesAt i NoMemory = ⊥
 
 -- what is left from this place on, at this open nesting
 abbrev pub input_at : List Token → ℕ → ℕ → Input

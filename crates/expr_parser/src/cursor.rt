@@ -14,8 +14,8 @@ use sv_ast::Id;
 use sv_base::{Kind, Name, Place, Refusal};
 use sv_lexer::Token;
 
-/// The greatest open nesting.
-const GREATEST_NESTING: u32 = 256;
+/// The greatest open nesting: so many brackets and operators may be open at a token.
+pub const NESTING_LIMIT: u32 = 256;
 
 /// A place in a list of tokens, and the open nesting there. The parsers of larger texts read through it too.
 #[derive(Drop)]
@@ -212,12 +212,13 @@ impl<'a> Cursor<'a> {
         Ok(())
     }
 
-    /// Counts one more that is open from the next token on. Where 256 are open already, that token is nested too deep.
+    /// Counts one more that is open from the next token on. Where `NESTING_LIMIT` are open already, that
+    /// token is nested too deep.
     #[tactic(auto, unfolding(crate::specs::Input::rise))]
     pub fn rise(&mut self, alloc: Global) -> Result<(), ParseFault>
         ensures { Gives (spec.rise self.old) result self.new }
     {
-        if self.nested >= GREATEST_NESTING {
+        if self.nested >= NESTING_LIMIT {
             return Err(self.refuse_nesting(alloc));
         }
         self.nested += 1;

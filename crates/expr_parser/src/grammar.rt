@@ -1,20 +1,21 @@
 //! The rules that hold expressions take the reader of those as a parameter, so that each is proved by itself.
 
 ghost use Rattle.std.specs.Prelude.{◌≤◌, IfOk, IfErr};
+ghost use Rattle.sv_base.specs.Faults.{IfRefused};
 ghost use Rattle.expr_parser.specs.Input.{Gives};
 ghost use Rattle.expr_parser.specs.Reading as spec;
 ghost use Rattle.expr_parser.specs.Nests.{Nests};
 ghost use Rattle.expr_parser.specs.Nesting.{greatest_nesting};
-ghost use Rattle.expr_parser.specs.Steady.{ReadsFrom, IsFaultAt};
+ghost use Rattle.expr_parser.specs.Steady.{ReadsFrom, IsRefusedAt};
 
-use crate::cursor::Cursor;
+use crate::cursor::{Cursor, NESTING_LIMIT};
 use crate::fault::ParseFault;
 use std::alloc::Global;
 use sv_ast::Expr;
 
-/// How many expressions stand inside one another at most, operands among them: each has an operator or a bracket before
-/// it that counts as nesting, and 256 of those are accepted.
-pub const DEPTH: usize = 257;
+/// How many expressions stand inside one another at most, operands among them: each has an operator or a
+/// bracket before it that counts as nesting.
+pub const DEPTH: usize = NESTING_LIMIT as usize + 1;
 
 #[derive(Clone, Copy)]
 pub struct Grammar<F> {
@@ -45,7 +46,7 @@ impl<F: Fn(Global, &mut Cursor<'_>, usize, u8) -> Result<Expr, ParseFault>> Gram
     }
 }
 
-/// An expression that goes on with operators that bind tighter than `least`, and with `? :` too where it is 0.
+/// An expression that holds together at least as tightly as `least`, thus `? :` only where it is 0.
 pub fn expr(
     alloc: Global,
     tokens: &mut Cursor<'_>,
@@ -65,14 +66,16 @@ pub fn expr(
     .level(tokens, least)
 }
 
-/// Reads a whole expression, the longest that stands at the cursor. Where the longest run of tokens with which an expression
-/// begins is none, the token behind it is refused, or the end of the list; a token of the run at which the open nesting is 257
-/// is refused before. What is read or refused depends on the tokens alone, unless memory runs out.
+/// Reads a whole expression, the longest that stands at the cursor. Where the longest run of tokens with
+/// which an expression begins is none, the token behind it is refused, or the end of the list; the first
+/// token of the run at which the open nesting is above `NESTING_LIMIT` is refused before. What is read or
+/// refused depends on the tokens alone, unless memory runs out.
 pub fn any(alloc: Global, tokens: &mut Cursor<'_>) -> Result<Expr, ParseFault>
     ensures gives { Gives (spec.any tokens.old) result tokens.new }
     ensures read { tokens.old.nested ≤ greatest_nesting
         → IfOk result (λ tree. ReadsFrom tokens.old tree tokens.new) }
-    ensures refused { tokens.old.nested ≤ greatest_nesting → IfErr result (IsFaultAt tokens.old) }
+    ensures refused { tokens.old.nested ≤ greatest_nesting
+        → IfErr result (IfRefused (IsRefusedAt tokens.old)) }
 {
     Grammar {
         alloc,

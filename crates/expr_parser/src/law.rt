@@ -4,7 +4,7 @@ ghost use Rattle.std.specs.Prelude.{◌≡◌, ◌≤◌, ℕ, true, List, [], �
 ghost use Rattle.sv_lexer.specs.declared.token.Token.{Token};
 ghost use Rattle.sv_ast.specs.declared.expression.Expr.{Expr};
 ghost use Rattle.sv_base.specs.declared.refusal.Refusal.{Refusal};
-ghost use Rattle.expr_parser.specs.declared.fault.ParseFault.{ParseFault};
+ghost use Rattle.sv_base.specs.declared.fault.Fault.{Fault};
 ghost use Rattle.expr_parser.specs.Grammar.{Phrase, Reads, IsPhrase, tokens_of};
 ghost use Rattle.expr_parser.specs.Nesting.{nesting, greatest_nesting};
 ghost use Rattle.expr_parser.specs.Outcome.{Begins, BeginsWith, IsRead, IsRefused};
@@ -39,7 +39,7 @@ pub fn not_both()
 
 /// What the definition of reading gives where tokens are left is told by those tokens and the open nesting there.
 pub fn exact_reading()
-    ensures { (i : Input) → i.nested ≤ greatest_nesting → ((tree : Expr) (k : Input) → any i ≡ Ok (tree, k) → ReadsFrom i tree k) × ((e : ParseFault) → any i ≡ Err e → RefusesAt i e) }
+    ensures { (i : Input) → i.nested ≤ greatest_nesting → ((tree : Expr) (k : Input) → any i ≡ Ok (tree, k) → ReadsFrom i tree k) × ((e : Fault) → any i ≡ Err e → RefusesAt i e) }
 {}
 
 /// No expression begins with an expression and a token that goes on with none.

@@ -10,7 +10,7 @@ mod operation;
 mod parser;
 mod spelling;
 
-pub use cursor::{Cursor, last_place};
+pub use cursor::{Cursor, NESTING_LIMIT, last_place};
 pub use fault::ParseFault;
 pub use grammar::any;
 pub use law::{

@@ -1,6 +1,7 @@
 //! Operators and their operands, by how tightly they bind.
 
 ghost use Rattle.std.specs.Prelude.{◌≡◌, ◌≤◌, Ok};
+ghost use Rattle.sv_base.specs.declared.operator.TheConstants.{TIGHTEST};
 ghost use Rattle.expr_parser.specs.Input.{Gives, next};
 ghost use Rattle.expr_parser.specs.Reading as spec;
 ghost use Rattle.expr_parser.specs.Nests.{Nests};
@@ -12,16 +13,39 @@ use crate::spelling;
 use sqlite_items::Boxed;
 use std::alloc::Global;
 use sv_ast::Expr;
+use sv_base::TIGHTEST;
+
+/// How tightly an operand with a sign before it holds together: tighter than every operator between two
+/// operands.
+const SIGNED_STRENGTH: u8 = TIGHTEST + 1;
 
 /// How tightly the next token binds between two operands.
 fn binds_next(tokens: &Cursor<'_>) -> u8
     ensures value { result ≡ spec.binds_next (next tokens.now) }
-    ensures greatest { result ≤ 11 }
+    ensures greatest { result ≤ TIGHTEST }
 {
     match tokens.next() {
         None => 0,
         Some(token) => spelling::binds(token),
     }
+}
+
+/// How tightly the operand behind the next token holds together at least.
+fn right_least_next(tokens: &Cursor<'_>) -> u8
+    ensures { result ≡ spec.right_least_next (next tokens.now) }
+{
+    match tokens.next() {
+        None => 0,
+        Some(token) => spelling::right_least(token),
+    }
+}
+
+/// Whether no operator that binds so stands in an expression that holds together at least so tightly, where 0
+/// is none.
+fn is_looser(level: u8, least: u8) -> bool
+    ensures { result ≡ spec.is_looser level least }
+{
+    level == 0 || level < least
 }
 
 fn is_unary_next(tokens: &Cursor<'_>) -> bool
@@ -66,7 +90,7 @@ impl<F: Fn(Global, &mut Cursor<'_>, usize, u8) -> Result<Expr, ParseFault>> Gram
     {
         tokens.rise(self.alloc)?;
         let sign = tokens.take_id(self.alloc)?;
-        let operand = self.expr(tokens, 12)?;
+        let operand = self.expr(tokens, SIGNED_STRENGTH)?;
         Ok(Expr::Unary(sign, Boxed::new(self.alloc, operand)?))
     }
 
@@ -83,14 +107,14 @@ impl<F: Fn(Global, &mut Cursor<'_>, usize, u8) -> Result<Expr, ParseFault>> Gram
     }
 
     #[tactic(auto, unfolding(crate::specs::Reading::operation))]
-    fn operation(&self, tokens: &mut Cursor<'_>, left: Expr, level: u8) -> Result<Expr, ParseFault>
+    fn operation(&self, tokens: &mut Cursor<'_>, left: Expr, least: u8) -> Result<Expr, ParseFault>
         requires { Nests self.now.depth (F.pre self.now.expr) (F.post self.now.expr) }
-        ensures { Gives (spec.operation (spec.expr self.now.depth) left level tokens.old) result tokens.new }
+        ensures { Gives (spec.operation (spec.expr self.now.depth) left least tokens.old) result tokens.new }
     {
         tokens.rise(self.alloc)?;
         let sign = tokens.take_id(self.alloc)?;
         let left = Boxed::new(self.alloc, left)?;
-        let right = Boxed::new(self.alloc, self.expr(tokens, level)?)?;
+        let right = Boxed::new(self.alloc, self.expr(tokens, least)?)?;
         Ok(Expr::Binary(sign, left, right))
     }
 
@@ -104,11 +128,11 @@ impl<F: Fn(Global, &mut Cursor<'_>, usize, u8) -> Result<Expr, ParseFault>> Gram
         ensures { Gives (spec.operations (spec.expr self.now.depth) least left tokens.old) result tokens.new }
     {
         'turn: for _turn in 0..tokens.len() {
-            let level = binds_next(tokens);
-            if level <= least {
+            if is_looser(binds_next(tokens), least) {
                 return Ok(left);
             }
-            left = self.operation(tokens, left, level)?;
+            let right = right_least_next(tokens);
+            left = self.operation(tokens, left, right)?;
         }
         Ok(left)
     }

@@ -1,118 +1,21 @@
 //! What tokens are to the grammar, by their kind and spelling.
 
 ghost use Rattle.std.specs.Prelude.{◌≡◌, ◌≤◌};
-ghost use Rattle.std.specs.List.{list_any};
-ghost use Rattle.std.specs.Str.{bytes_eq};
-ghost use Rattle.sv_base.specs.Spelling.{used_words, refused_words};
+ghost use Rattle.sv_base.specs.declared.operator.TheConstants.{TIGHTEST};
 ghost use Rattle.expr_parser.specs.Spelling as spec;
 
-use sv_base::spelling;
+use sv_base::{Binary, Function, Grouping, TIGHTEST, Unary, is_refused_operator, spelling};
 use sv_lexer::{Token, TokenKind};
 
-/// The words that the language uses; every other reserved word is refused.
-const USED_WORDS: [&str; 31] = [
-    "module",
-    "endmodule",
-    "input",
-    "output",
-    "wire",
-    "logic",
-    "reg",
-    "bit",
-    "int",
-    "integer",
-    "signed",
-    "unsigned",
-    "parameter",
-    "localparam",
-    "genvar",
-    "generate",
-    "endgenerate",
-    "assign",
-    "always",
-    "always_comb",
-    "always_ff",
-    "posedge",
-    "negedge",
-    "begin",
-    "end",
-    "if",
-    "else",
-    "case",
-    "endcase",
-    "default",
-    "for",
-];
-
-fn is_among(texts: &[&str], text: &[u8]) -> bool
-    ensures { result ≡ list_any (λ t. bytes_eq text.now t.now) texts.now }
-{
-    texts.iter().any(|t| text == t.as_bytes())
-}
-
-fn is_used_word(text: &[u8]) -> bool
-    ensures { result ≡ spec.is_among used_words text.now }
-{
-    is_among(&USED_WORDS, text)
-}
-
-fn is_refused_word(text: &[u8]) -> bool
-    ensures { result ≡ spec.is_among refused_words text.now }
-{
-    spelling::is_reserved(text) && !is_used_word(text)
-}
-
-fn is_system_name(text: &[u8]) -> bool
-    ensures { result ≡ spec.is_among spec.system_names text.now }
-{
-    is_among(&["$clog2", "$signed", "$unsigned"], text)
-}
-
-fn is_refused_sign(text: &[u8]) -> bool
-    ensures { result ≡ spec.is_among spec.refused_signs text.now }
-{
-    is_among(&["===", "!=="], text)
-}
-
-fn is_unary_sign(text: &[u8]) -> bool
-    ensures { result ≡ spec.is_among spec.unary_signs text.now }
-{
-    is_among(
-        &["+", "-", "!", "~", "&", "~&", "|", "~|", "^", "~^", "^~"],
-        text,
-    )
-}
-
-/// How tightly a sign between two operands binds, 11 the tightest (11.3.2).
+/// How tightly an operator between two operands binds, and 0 for any other text (11.3.2).
 #[tactic(auto, unfolding(crate::specs::Spelling::precedence))]
 fn precedence(text: &[u8]) -> u8
     ensures value { result ≡ spec.precedence text.now }
-    ensures greatest { result ≤ 11 }
+    ensures greatest { result ≤ TIGHTEST }
 {
-    if is_among(&["**"], text) {
-        11
-    } else if is_among(&["*", "/", "%"], text) {
-        10
-    } else if is_among(&["+", "-"], text) {
-        9
-    } else if is_among(&["<<", ">>", "<<<", ">>>"], text) {
-        8
-    } else if is_among(&["<", "<=", ">", ">="], text) {
-        7
-    } else if is_among(&["==", "!="], text) {
-        6
-    } else if is_among(&["&"], text) {
-        5
-    } else if is_among(&["^", "~^", "^~"], text) {
-        4
-    } else if is_among(&["|"], text) {
-        3
-    } else if is_among(&["&&"], text) {
-        2
-    } else if is_among(&["||"], text) {
-        1
-    } else {
-        0
+    match Binary::of(text) {
+        None => 0,
+        Some(operator) => operator.level().tightness(),
     }
 }
 
@@ -155,7 +58,7 @@ pub fn is_identifier(token: &Token) -> bool
 pub fn is_function(token: &Token) -> bool
     ensures { result ≡ spec.is_function token.now }
 {
-    matches!(token.kind, TokenKind::System) && is_system_name(token.text.bytes())
+    matches!(token.kind, TokenKind::System) && Function::of(token.text.bytes()).is_some()
 }
 
 /// Whether the token is a sign that may stand before an operand.
@@ -163,7 +66,7 @@ pub fn is_function(token: &Token) -> bool
 pub fn is_unary(token: &Token) -> bool
     ensures { result ≡ spec.is_unary token.now }
 {
-    is_sign(token) && is_unary_sign(token.text.bytes())
+    is_sign(token) && Unary::of(token.text.bytes()).is_some()
 }
 
 /// Whether the token is this sign.
@@ -178,12 +81,36 @@ pub fn is_this(text: &str, token: &Token) -> bool
 #[tactic(auto, unfolding(crate::specs::Spelling::binds))]
 pub fn binds(token: &Token) -> u8
     ensures value { result ≡ spec.binds token.now }
-    ensures greatest { result ≤ 11 }
+    ensures greatest { result ≤ TIGHTEST }
 {
     if is_sign(token) {
         precedence(token.text.bytes())
     } else {
         0
+    }
+}
+
+#[tactic(auto, unfolding(crate::specs::Spelling::grouping))]
+fn grouping(token: &Token) -> Grouping
+    ensures { result ≡ spec.grouping token.now }
+{
+    if !is_sign(token) {
+        return Grouping::ToTheLeft;
+    }
+    match Binary::of(token.text.bytes()) {
+        None => Grouping::ToTheLeft,
+        Some(operator) => operator.level().grouping(),
+    }
+}
+
+/// How tightly the right operand of the operator that the token is holds together at least.
+#[tactic(auto, unfolding(crate::specs::Spelling::right_least))]
+pub fn right_least(token: &Token) -> u8
+    ensures { result ≡ spec.right_least token.now }
+{
+    match grouping(token) {
+        Grouping::ToTheLeft => binds(token) + 1,
+        Grouping::ToTheRight => binds(token),
     }
 }
 
@@ -194,9 +121,9 @@ pub fn is_refused(token: &Token) -> bool
 {
     let text = token.text.bytes();
     match token.kind {
-        TokenKind::Word => is_refused_word(text),
-        TokenKind::System => !is_system_name(text),
-        TokenKind::Sign => is_refused_sign(text),
+        TokenKind::Word => spelling::is_refused(text),
+        TokenKind::System => Function::of(text).is_none(),
+        TokenKind::Sign => is_refused_operator(text),
         _ => false,
     }
 }

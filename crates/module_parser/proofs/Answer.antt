@@ -3,8 +3,9 @@ use Rattle.std.proofs.Common.{◌≡◌, ◌≢◌, ◌∙◌, inl, inr, false, 
 use Rattle.sv_base.specs.declared.refusal.Refusal.{Refusal}
 use Rattle.sv_lexer.specs.declared.token.Token.{Token}
 use Rattle.sv_ast.specs.declared.module.Module.{Module}
-use Rattle.expr_parser.specs.declared.fault.ParseFault.{ParseFault}
-use Rattle.expr_parser.specs.declared.fault.ParseFault.TheVariants.{Refused, NoMemory}
+use Rattle.sv_base.specs.Faults.{IfRefused}
+use Rattle.sv_base.specs.declared.fault.Fault.{Fault}
+use Rattle.sv_base.specs.declared.fault.Fault.TheVariants.{Refused, NoMemory}
 use Rattle.expr_parser.specs.Spelled.{AreSpelled}
 use Rattle.expr_parser.specs.Outcome.{grammar_tokens, last_place}
 use Rattle.expr_parser.specs.Input.{Input, Outcome, front_of, past_marks}
@@ -13,7 +14,7 @@ use Rattle.module_parser.specs.Words.{is_any}
 use Rattle.module_parser.specs.Grammar as grammar
 use Rattle.module_parser.specs.Grammar.{module_of}
 use Rattle.module_parser.specs.Reading as reading
-use Rattle.module_parser.specs.Outcome.{IsBegun, IsShallow, IsRead, ComesNext, IsStuck, IsTooDeep, IsFaultOf, AreWritten}
+use Rattle.module_parser.specs.Outcome.{IsBegun, IsShallow, IsRead, ComesNext, IsStuck, IsTooDeep, IsRefused, AreWritten}
 use Rattle.module_parser.proofs.Rules.{first_of, At, Fits, Good, Opens, Stuck, Deep, Judged}
 use Rattle.module_parser.proofs.Streams.{past_marks-token}
 use Rattle.module_parser.proofs.Grouping.{first_of-grammar, refusal_at-front}
@@ -130,11 +131,11 @@ deep_refused tokens r d = record {
   refused = d.refused;
 }
 
-fault_of : (tokens : List Token) (r : Refusal) → Judged at_end (λ _. grammar.file) (start tokens) (Err (Refused r)) → IsFaultOf tokens (Refused r)
+fault_of : (tokens : List Token) (r : Refusal) → Judged at_end (λ _. grammar.file) (start tokens) (Err (Refused r)) → IsRefused tokens r
 fault_of tokens r (inl s) = inl (stuck_refused tokens r s)
 fault_of tokens r (inr d) = inr (deep_refused tokens r d)
 
-pub refuses_right : Exact → (tokens : List Token) (e : ParseFault) → (e ≢ NoMemory → reading.file (start tokens) ≡ Err e) → IsFaultOf tokens e
+pub refuses_right : Exact → (tokens : List Token) (e : Fault) → (e ≢ NoMemory → reading.file (start tokens) ≡ Err e) → IfRefused (IsRefused tokens) e
 refuses_right exact tokens (Refused r) is =
     fault_of tokens r (judged_as exact tokens (Err (Refused r)) (is (λ same. cc)))
 refuses_right exact tokens NoMemory is = tt

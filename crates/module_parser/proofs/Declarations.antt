@@ -3,6 +3,7 @@ use Rattle.std.proofs.Common.{◌≡◌, ◌∷◌, ℕ, true, false, List, [], 
 use Rattle.sv_lexer.specs.declared.token.Token.{Token}
 use Rattle.sv_ast.specs.declared.expression.Id.{Id}
 use Rattle.sv_ast.specs.declared.item.Item.TheVariants as item
+use Rattle.sv_base.specs.Operators as operators
 use Rattle.expr_parser.specs.Spelling as spelling
 use Rattle.expr_parser.specs.Spelling.{is_this, is_identifier, binds}
 use Rattle.expr_parser.specs.Steady.{ends_expression}
@@ -59,7 +60,7 @@ module _ (E : (floor : ℕ) → Reading floor ends (Some spare_number) true (λ 
   -- ---- ranges and types
 
   range_reads : {floor : ℕ} {stop : Stop} → Reading floor stop (Some (spare_sign (codes "["))) true (λ _. grammar.range) reading.range
-  unfolding is_this ends_expression binds spelling.precedence reading.range
+  unfolding is_this ends_expression binds spelling.precedence operators.binary_of reading.range
   range_reads =
       reads_then (reads_opened {stop = ends} bracket (spare_sign (codes "[")) refl refl
       (λ _. reads_then (E _) (λ high. first_then E (sign_reads E (codes ":") refl) (λ _. reads_map (λ low. record { high = high; low = low }) (E _))) (λ v s. refl)))
@@ -137,7 +138,7 @@ module _ (E : (floor : ℕ) → Reading floor ends (Some spare_number) true (λ 
   parameter_reads = first_then E (identifier_reads E) (λ name. reads_map (λ first. record { name = name; value = Some first }) value_reads)
 
   pub parameters_reads : {floor : ℕ} {stop : Stop} → Reading floor stop (Some (spare_word (codes "parameter"))) true (λ _. grammar.parameters) reading.parameters
-  unfolding is_this is_keyword is_keyword_of ends_expression binds spelling.precedence reading.parameters
+  unfolding is_this is_keyword is_keyword_of ends_expression binds spelling.precedence operators.binary_of reading.parameters
   parameters_reads =
       first_then E (reads_one a_parameter (spare_word (codes "parameter")) refl refl)
       (λ keyword. reads_then variable_reads
@@ -145,7 +146,7 @@ module _ (E : (floor : ℕ) → Reading floor ends (Some spare_number) true (λ 
       (λ found. ended E (sign_reads E (codes ";") refl) (item.Param keyword shape found)) (λ v s. refl)) (λ v s. refl))
 
   pub declaration_reads : {floor : ℕ} {stop : Stop} → Reading floor stop (Some spare_name) true (λ _. grammar.declaration) reading.declaration
-  unfolding is_this is_keyword is_keyword_of ends_expression binds spelling.precedence reading.declaration
+  unfolding is_this is_keyword is_keyword_of ends_expression binds spelling.precedence operators.binary_of reading.declaration
   declaration_reads =
       reads_then port_shape_reads
       (λ shape. reads_then (listed_reads E in_declared (λ v s. not_of _ (right_of (behind_value v) _ s)) (reads_weaken in_declared (λ v s. left_of (behind_value v) _ s) declared_reads))
@@ -164,7 +165,7 @@ module _ (E : (floor : ℕ) → Reading floor ends (Some spare_number) true (λ 
       reads_then (target_reads E) (λ written. first_then E (sign_reads E (codes "=") refl) (λ _. reads_map (λ found. record { target = written; value = found }) (E _))) (λ v s. refl)
 
   pub assignments_reads : {floor : ℕ} {stop : Stop} → Reading floor stop (Some (spare_word (codes "assign"))) true (λ _. grammar.assignments) reading.assignments
-  unfolding is_this is_keyword ends_expression binds spelling.precedence reading.assignments
+  unfolding is_this is_keyword ends_expression binds spelling.precedence operators.binary_of reading.assignments
   assignments_reads =
       first_then E (word_reads E (codes "assign") refl)
       (λ _. reads_then (listed_reads E in_values (λ v s. not_of _ (right_of (ends v) _ s)) (reads_weaken in_values (λ v s. left_of (ends v) _ s) pair_reads))

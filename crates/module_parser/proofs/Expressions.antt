@@ -4,8 +4,8 @@ use Rattle.sv_base.specs.declared.refusal.Refusal.{Refusal}
 use Rattle.sv_lexer.specs.declared.token.TokenKind.TheVariants as kind
 use Rattle.sv_lexer.specs.declared.token.Token.{Token}
 use Rattle.sv_ast.specs.declared.expression.Expr.{Expr}
-use Rattle.expr_parser.specs.declared.fault.ParseFault.{ParseFault}
-use Rattle.expr_parser.specs.declared.fault.ParseFault.TheVariants.{Refused, NoMemory}
+use Rattle.sv_base.specs.declared.fault.Fault.{Fault}
+use Rattle.sv_base.specs.declared.fault.Fault.TheVariants.{Refused, NoMemory}
 use Rattle.expr_parser.specs.Grammar.{Phrase, number, fill, name, selected, ranged, group, concat, repeat, call, unary, binary, choice, tokens_of, tree_of, IsPhrase, Reads}
 use Rattle.expr_parser.specs.Nesting.{nesting, greatest_nesting}
 use Rattle.expr_parser.specs.Outcome.{grammar_tokens, Begins, BeginsWith, NoneGoesOn, nesting_refusal}
@@ -23,7 +23,7 @@ use Rattle.module_parser.proofs.Grouping.{first_of-grammar, refusal_at-front, gr
 -- what is known of reading an expression
 pub record Exact : Type 0 where
   pub reading : (i : Input) → i.nested ≤ greatest_nesting
-      → ((tree : Expr) (k : Input) → any i ≡ Ok (tree, k) → ReadsFrom i tree k) × ((e : ParseFault) → any i ≡ Err e → RefusesAt i e)
+      → ((tree : Expr) (k : Input) → any i ≡ Ok (tree, k) → ReadsFrom i tree k) × ((e : Fault) → any i ≡ Err e → RefusesAt i e)
   pub apart : (p : Phrase) (t : Token) → IsPhrase p → ends_expression t ≡ true → Begins (tokens_of p ++ t ∷ []) → ⊥
   pub one_tree : (tokens : List Token) (a b : Expr) → Reads tokens a → Reads tokens b → a ≡ b
   pub one_nesting : (run : List Token) (p q : Phrase) → BeginsWith run p → BeginsWith run q → nesting p (length run) ≡ nesting q (length run)
@@ -270,7 +270,7 @@ deep_lem exact i r s =
       refused = s.refused ∙ ap nesting_refusal (sym last.token_is);
     }
 
-refused_lem : Exact → (i : Input) (e : ParseFault) → RefusesAt i e → Judged {A = Expr} ends (λ _. expression) i (Err e)
+refused_lem : Exact → (i : Input) (e : Fault) → RefusesAt i e → Judged {A = Expr} ends (λ _. expression) i (Err e)
 refused_lem exact i (Refused r) (inl s) = inl (stuck_lem exact i r s)
 refused_lem exact i (Refused r) (inr s) = inr (deep_lem exact i r s)
 refused_lem exact i NoMemory h = absurd h

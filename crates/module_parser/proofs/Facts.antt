@@ -2,7 +2,7 @@
 use Rattle.std.proofs.Common.{◌≡◌, ◌≢◌, ◌∙◌, inl, inr, ℕ, ◌+◌, ◌≤◌, Bool, true, false, List, [], ◌∷◌, ◌++◌, Option, Some, Ok, Err, refl, sym, ap, subst, arith, if◌then◌else◌, append_assoc}
 use Rattle.sv_base.specs.declared.refusal.Refusal.{Refusal}
 use Rattle.sv_lexer.specs.declared.token.Token.{Token}
-use Rattle.expr_parser.specs.declared.fault.ParseFault.TheVariants.{Refused, NoMemory}
+use Rattle.sv_base.specs.declared.fault.Fault.TheVariants.{Refused, NoMemory}
 use Rattle.expr_parser.specs.Spelling.{is_mark}
 use Rattle.expr_parser.specs.Grammar.{id_of}
 use Rattle.expr_parser.specs.Nesting.{greatest_nesting}

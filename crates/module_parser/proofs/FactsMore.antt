@@ -4,7 +4,7 @@ use Rattle.std.proofs.Math.Seq.{take-append_seam}
 use Rattle.std.specs.List.{list_any}
 use Rattle.sv_base.specs.declared.refusal.Refusal.{Refusal}
 use Rattle.sv_lexer.specs.declared.token.Token.{Token}
-use Rattle.expr_parser.specs.declared.fault.ParseFault.TheVariants.{Refused, NoMemory}
+use Rattle.sv_base.specs.declared.fault.Fault.TheVariants.{Refused, NoMemory}
 use Rattle.expr_parser.specs.Spelling.{is_mark}
 use Rattle.expr_parser.specs.Outcome.{grammar_tokens}
 use Rattle.expr_parser.specs.Input.{Input, Outcome, Parser, and_then}

@@ -5,7 +5,7 @@ use Rattle.sv_base.specs.declared.refusal.Place.{Place}
 use Rattle.sv_base.specs.declared.refusal.Refusal.{Refusal}
 use Rattle.sv_lexer.specs.declared.token.Token.{Token}
 use Rattle.sv_ast.specs.declared.expression.Id.{Id}
-use Rattle.expr_parser.specs.declared.fault.ParseFault.TheVariants.{Refused, NoMemory}
+use Rattle.sv_base.specs.declared.fault.Fault.TheVariants.{Refused, NoMemory}
 use Rattle.expr_parser.specs.Spelling.{is_mark}
 use Rattle.expr_parser.specs.Grammar.{id_of}
 use Rattle.expr_parser.specs.Nesting.{greatest_nesting}

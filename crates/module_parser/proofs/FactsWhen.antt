@@ -1,7 +1,7 @@
 -- What holds of a parser that looks at the next token, and goes on in one way or another.
 use Rattle.std.proofs.Common.{◌≡◌, ◌≢◌, ◌∙◌, inl, inr, ℕ, Bool, true, false, List, [], ◌∷◌, ◌++◌, Option, Some, Ok, Err, refl, sym, ap, subst, arith, if◌then◌else◌}
 use Rattle.sv_lexer.specs.declared.token.Token.{Token}
-use Rattle.expr_parser.specs.declared.fault.ParseFault.TheVariants.{Refused, NoMemory}
+use Rattle.sv_base.specs.declared.fault.Fault.TheVariants.{Refused, NoMemory}
 use Rattle.expr_parser.specs.Input.{Input, Outcome, Parser}
 use Rattle.module_parser.specs.Rule.{Piece, Test, meets, written, lead, choose, AreMarked}
 use Rattle.module_parser.specs.Rule as rule

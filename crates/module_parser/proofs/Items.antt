@@ -3,6 +3,7 @@ use Rattle.std.proofs.Common.{◌≡◌, ◌∙◌, ◌∷◌, ◌+◌, ◌≤�
 use Rattle.sv_lexer.specs.declared.token.Token.{Token}
 use Rattle.sv_ast.specs.declared.item.Item.{Item}
 use Rattle.sv_ast.specs.declared.item.Item.TheVariants as item
+use Rattle.sv_base.specs.Operators as operators
 use Rattle.expr_parser.specs.Spelling as spelling
 use Rattle.expr_parser.specs.Spelling.{is_this, is_identifier, binds}
 use Rattle.expr_parser.specs.Steady.{ends_expression}
@@ -71,7 +72,7 @@ module _ (E : (floor : ℕ) → Reading floor ends (Some spare_number) true (λ 
       (lawful_map (λ found. record { label = None; items = found ∷ [] }) l) (λ is. absurd cc)
 
   head_reads : {floor : ℕ} {stop : Stop} (us : Family Item) (p : Parser Item) → Reading floor stop (Some (spare_sign (codes "("))) true (λ k. grammar.parenthesised (grammar.loop_head (us k))) (reading.parenthesised (reading.loop_head p))
-  unfolding is_this is_keyword ends_expression binds spelling.precedence reading.loop_head
+  unfolding is_this is_keyword ends_expression binds spelling.precedence operators.binary_of reading.loop_head
   head_reads us p =
       parenthesised_reads E ends refl
       (reads_when genvar_word (first_then E (word_reads E (codes "genvar") refl) (λ _. reads_map (λ head. (true, head)) (loop_reads E))) (reads_map (λ head. (false, head)) (loop_reads E)) (λ is. absurd cc) (λ v s. refl))
@@ -172,4 +173,4 @@ module _ (E : (floor : ℕ) → Reading floor ends (Some spare_number) true (λ 
 
   pub item_reads : {floor : ℕ} → Reading floor closes (Some semicolon) true (λ _. grammar.item_of) reading.item_of
   unfolding reading.item_of
-  item_reads {floor} = reads_depths (item_at_reads floor 257 (omega arith))
+  item_reads {floor} = reads_depths (item_at_reads floor (greatest_nesting + 1) (omega arith))

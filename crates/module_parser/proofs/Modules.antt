@@ -1,6 +1,7 @@
 -- Modules and files: what is read of them is what their rules say.
 use Rattle.std.proofs.Common.{◌≡◌, ◌∷◌, ℕ, true, false, [], Option, Some, None, refl, codes}
 use Rattle.sv_lexer.specs.declared.token.Token.{Token}
+use Rattle.sv_base.specs.Operators as operators
 use Rattle.expr_parser.specs.Spelling as spelling
 use Rattle.expr_parser.specs.Spelling.{is_this, is_identifier, binds}
 use Rattle.expr_parser.specs.Steady.{ends_expression}
@@ -50,7 +51,7 @@ module _ (E : (floor : ℕ) → Reading floor ends (Some spare_number) true (λ 
       (λ shape. first_then E (identifier_reads E) (λ name. reads_map (λ found. record { keyword = keyword; shape = shape; name = name; value = found }) (value_reads E))) (λ v s. refl)) (λ v s. refl)
 
   in_header_reads : {floor : ℕ} {stop : Stop} → Reading floor stop (Some (spare_sign (codes "("))) true (λ _. grammar.parenthesised (grammar.listed grammar.header_parameter)) (reading.parenthesised (reading.listed reading.header_parameter))
-  unfolding is_this ends_expression binds spelling.precedence
+  unfolding is_this ends_expression binds spelling.precedence operators.binary_of
   in_header_reads =
       parenthesised_reads E in_header refl (listed_reads E in_header (λ v s. not_of _ (right_of (ends v) _ s)) (reads_weaken in_header (λ v s. left_of (ends v) _ s) header_parameter_reads))
 

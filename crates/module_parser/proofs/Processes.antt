@@ -5,6 +5,7 @@ use Rattle.sv_ast.specs.declared.expression.Id.{Id}
 use Rattle.sv_ast.specs.declared.item.Edge.{Edge}
 use Rattle.sv_ast.specs.declared.item.Item.TheVariants as item
 use Rattle.sv_ast.specs.declared.expression.Expr.TheVariants as e
+use Rattle.sv_base.specs.Operators as operators
 use Rattle.expr_parser.specs.Spelling as spelling
 use Rattle.expr_parser.specs.Spelling.{is_this, is_identifier, binds}
 use Rattle.expr_parser.specs.Steady.{ends_expression}
@@ -58,7 +59,7 @@ module _ (E : (floor : ℕ) → Reading floor ends (Some spare_number) true (λ 
   in_closing v s = not_of _ (right_of (but comma v) _ (right_of (but paren v) _ (right_of (ends v) _ s)))
 
   connected_reads : {floor : ℕ} (port : Id) → Reading floor (but paren) None false (λ _. grammar.connected port) (reading.connected port)
-  unfolding is_this is_no_sign ends_expression binds spelling.precedence reading.connected
+  unfolding is_this is_no_sign ends_expression binds spelling.precedence operators.binary_of reading.connected
   connected_reads {floor} port =
       reads_when paren
       (reads_map (λ joined. record { port = Some port; value = joined })
@@ -81,7 +82,7 @@ module _ (E : (floor : ℕ) → Reading floor ends (Some spare_number) true (λ 
       (reads_give []) (λ _. in_closing) in_closing
 
   in_args_reads : {floor : ℕ} {stop : Stop} → Reading floor stop (Some (spare_sign (codes "("))) true (λ _. grammar.parenthesised grammar.args) (reading.parenthesised reading.args)
-  unfolding is_this is_no_sign ends_expression binds spelling.precedence
+  unfolding is_this is_no_sign ends_expression binds spelling.precedence operators.binary_of
   in_args_reads = parenthesised_reads E in_parens refl args_reads
 
   instance_reads : {floor : ℕ} {stop : Stop} → Reading floor stop (Some spare_name) true (λ _. grammar.instance) reading.instance

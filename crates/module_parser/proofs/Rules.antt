@@ -3,7 +3,7 @@
 use Rattle.std.proofs.Common.{◌≡◌, ◌≢◌, ◌⊎◌, ◌+◌, ◌≤◌, ℕ, Bool, true, List, [], ◌∷◌, ◌++◌, Option, Ok, Err}
 use Rattle.sv_base.specs.declared.refusal.Refusal.{Refusal}
 use Rattle.sv_lexer.specs.declared.token.Token.{Token}
-use Rattle.expr_parser.specs.declared.fault.ParseFault.TheVariants.{Refused, NoMemory}
+use Rattle.sv_base.specs.declared.fault.Fault.TheVariants.{Refused, NoMemory}
 use Rattle.expr_parser.specs.Nesting.{greatest_nesting}
 use Rattle.expr_parser.specs.Outcome.{refusal_at, nesting_refusal}
 use Rattle.expr_parser.specs.Input.{Input, Outcome, Parser, front_of, past_marks}

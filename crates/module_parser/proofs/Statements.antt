@@ -5,6 +5,7 @@ use Rattle.sv_ast.specs.declared.expression.Id.{Id}
 use Rattle.sv_ast.specs.declared.statement.CaseItem.{CaseItem}
 use Rattle.sv_ast.specs.declared.statement.Stmt.{Stmt}
 use Rattle.sv_ast.specs.declared.statement.Stmt.TheVariants as stmt
+use Rattle.sv_base.specs.Operators as operators
 use Rattle.expr_parser.specs.Spelling as spelling
 use Rattle.expr_parser.specs.Spelling.{is_this, is_identifier, binds}
 use Rattle.expr_parser.specs.Steady.{ends_expression}
@@ -106,7 +107,7 @@ module _ (E : (floor : ℕ) → Reading floor ends (Some spare_number) true (λ 
       (λ is. absurd cc) (λ v s. refl))
 
   pub loop_reads : {floor : ℕ} → Reading floor ends (Some spare_name) true (λ _. grammar.loop) reading.loop
-  unfolding is_this ends_expression binds spelling.precedence reading.loop
+  unfolding is_this ends_expression binds spelling.precedence operators.binary_of reading.loop
   loop_reads =
       first_then E (identifier_reads E) (λ name. first_then E (sign_reads E (codes "=") refl)
       (λ _. reads_then (E _) (λ first. first_then E (sign_reads E (codes ";") refl)
@@ -124,7 +125,7 @@ module _ (E : (floor : ℕ) → Reading floor ends (Some spare_number) true (λ 
   block_lawful l = lawful_map (λ inner. stmt.Block inner.0 inner.1) (lawful_weaken closes (λ v s. left_of (no_colon v) _ s) (block_of_lawful l))
 
   pub tested_reads : {floor : ℕ} {stop : Stop} → Reading floor stop (Some (spare_sign (codes "("))) true (λ _. grammar.parenthesised expression) (reading.parenthesised any)
-  unfolding is_this ends_expression binds spelling.precedence
+  unfolding is_this ends_expression binds spelling.precedence operators.binary_of
   tested_reads {floor} = parenthesised_reads E ends refl (E (floor + 1))
 
   conditional_reads : {floor : ℕ} {h : Option Token} {us : Family Stmt} {p : Parser Stmt} → Reading (floor + 1) closes h true us p
@@ -161,7 +162,7 @@ module _ (E : (floor : ℕ) → Reading floor ends (Some spare_number) true (λ 
 
   labelled_reads : {floor : ℕ} {us : Family Stmt} {p : Parser Stmt} → Reading floor closes (Some (spare_sign (codes ";"))) true us p
       → Reading floor closes (Some spare_number) true (λ k. grammar.labelled_item (us k)) (reading.labelled_item p)
-  unfolding is_this ends_expression binds spelling.precedence reading.labelled_item
+  unfolding is_this ends_expression binds spelling.precedence operators.binary_of reading.labelled_item
   labelled_reads r =
       reads_then labels_reads (λ labels. first_then E (sign_reads E (codes ":") refl) (λ _. reads_map (λ body. record { labels = labels; body = body }) r)) (λ v s. refl)
 
@@ -196,7 +197,7 @@ module _ (E : (floor : ℕ) → Reading floor ends (Some spare_number) true (λ 
       (λ inner. lawful_bind (lawful_skip {stop = anything} (is_keyword (codes "endcase"))) (λ _. lawful_give inner) (λ v s. refl))
 
   head_reads : {floor : ℕ} {stop : Stop} → Reading floor stop (Some (spare_sign (codes "("))) true (λ _. grammar.parenthesised (rule.◌>>◌ (grammar.word (codes "int")) grammar.loop)) (reading.parenthesised (parser.◌>>◌ (reading.word (codes "int")) reading.loop))
-  unfolding is_this is_keyword ends_expression binds spelling.precedence
+  unfolding is_this is_keyword ends_expression binds spelling.precedence operators.binary_of
   head_reads = parenthesised_reads E ends refl (first_then E (word_reads E (codes "int") refl) (λ _. loop_reads))
 
   repetition_reads : {floor : ℕ} {us : Family Stmt} {p : Parser Stmt} → Reading (floor + 1) closes (Some (spare_sign (codes ";"))) true us p
@@ -208,7 +209,7 @@ module _ (E : (floor : ℕ) → Reading floor ends (Some spare_number) true (λ 
   repetition_lawful l = lawful_opened {stop = closes} for_word (λ opens. lawful_then (lawful (head_reads {floor = 0} {stop = anything}) 0 0) (λ head. lawful_map (stmt.For opens.place head) l))
 
   assignment_reads : {floor : ℕ} {stop : Stop} (us : Family Stmt) (p : Parser Stmt) → Reading floor stop (Some spare_name) true (λ k. grammar.assignment (us k)) (reading.assignment p)
-  unfolding is_this is_sign_of ends_expression binds spelling.precedence reading.assignment
+  unfolding is_this is_sign_of ends_expression binds spelling.precedence operators.binary_of reading.assignment
   assignment_reads us p =
       reads_then (target_reads E) (λ written. first_then E (reads_one assigns (spare_sign (codes "=")) refl refl)
       (λ by. reads_then (E _) (λ value. ended E (sign_reads E (codes ";") refl) (stmt.Assign written by value)) (λ v s. refl))) (λ v s. refl)
@@ -268,4 +269,4 @@ module _ (E : (floor : ℕ) → Reading floor ends (Some spare_number) true (λ 
 
   pub statement_reads : {floor : ℕ} → Reading floor closes (Some (spare_sign (codes ";"))) true (λ _. grammar.statement) reading.statement
   unfolding reading.statement
-  statement_reads {floor} = reads_depths (statement_at_reads floor 257 (omega arith))
+  statement_reads {floor} = reads_depths (statement_at_reads floor (greatest_nesting + 1) (omega arith))

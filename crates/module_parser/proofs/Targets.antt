@@ -7,6 +7,7 @@ use Rattle.sv_ast.specs.declared.expression.Sel.TheVariants as sel
 use Rattle.sv_ast.specs.declared.expression.Expr.{Expr}
 use Rattle.sv_ast.specs.declared.expression.Lval.{Lval}
 use Rattle.sv_ast.specs.declared.expression.Lval.TheVariants as lval
+use Rattle.sv_base.specs.Operators as operators
 use Rattle.expr_parser.specs.Spelling as spelling
 use Rattle.expr_parser.specs.Spelling.{is_this, is_identifier, binds}
 use Rattle.expr_parser.specs.Steady.{ends_expression}
@@ -95,7 +96,7 @@ module _ (E : (floor : ℕ) → Reading floor ends (Some spare_number) true (λ 
       (reads_give (sel.Bit opens.place first)) (λ _. third_stops) third_stops) (λ _. second_stops) second_stops) (λ _. first_stops) first_stops
 
   select_reads : {floor : ℕ} → Reading floor anything (Some (spare_sign (codes "["))) true (λ _. grammar.select) reading.select
-  unfolding is_this ends_expression binds reading.select spelling.precedence
+  unfolding is_this ends_expression binds reading.select spelling.precedence operators.binary_of
   select_reads =
       reads_then (reads_opened {stop = in_select} (is_this (codes "[")) (spare_sign (codes "[")) refl refl
       (λ opens. reads_bind (expression_reads in_select (λ v s. left_of (ends v) _ s)) (select_from_reads opens) (λ v s. s) (λ v s. s)))
@@ -157,4 +158,4 @@ module _ (E : (floor : ℕ) → Reading floor ends (Some spare_number) true (λ 
 
   pub target_reads : {floor : ℕ} → Reading floor no_select (Some spare_name) true (λ _. grammar.target) reading.target
   unfolding reading.target
-  target_reads {floor} = reads_depths (target_at_reads floor 257 (omega arith))
+  target_reads {floor} = reads_depths (target_at_reads floor (greatest_nesting + 1) (omega arith))

@@ -3,8 +3,6 @@ use Rattle.std.specs.Prelude.{◌≡◌, ◌⊎◌, ◌≤◌, ◌+◌, false, L
 use Rattle.sv_base.specs.declared.refusal.Refusal.{Refusal}
 use Rattle.sv_lexer.specs.declared.token.Token.{Token}
 use Rattle.sv_ast.specs.declared.module.Module.{Module}
-use Rattle.expr_parser.specs.declared.fault.ParseFault.{ParseFault}
-use Rattle.expr_parser.specs.declared.fault.ParseFault.TheVariants as fault
 use Rattle.expr_parser.specs.Spelling.{is_mark}
 use Rattle.expr_parser.specs.Spelled.{AreSpelled}
 use Rattle.expr_parser.specs.Nesting.{greatest_nesting}
@@ -68,7 +66,7 @@ pub record IsStuck (tokens : List Token) (refusal : Refusal) : Type 0 where
   pub none_ends : grammar_tokens rest ≡ [] → (modules : List Module) → IsFile tokens modules → ⊥
   pub refused : refusal ≡ refusal_at (last_place tokens) (grammar_tokens rest)
 
--- Some file begins with this text and the next token, at which the open nesting is 257, and nowhere before it.
+-- Some file begins with this text and the next token, at which the open nesting is one too great, and nowhere before it.
 pub record IsTooDeep (tokens : List Token) (refusal : Refusal) : Type 0 where
   pub seen : List Piece
   pub deep : Piece
@@ -82,11 +80,6 @@ pub record IsTooDeep (tokens : List Token) (refusal : Refusal) : Type 0 where
 -- what is refused: the first token after which no text of the grammar goes on, or the first that is nested too deep
 abbrev pub IsRefused : List Token → Refusal → Type 0
 IsRefused tokens refusal = IsStuck tokens refusal ⊎ IsTooDeep tokens refusal
-
--- a fault is that refusal; memory may run out at any tokens
-abbrev pub IsFaultOf : List Token → ParseFault → Type 0
-IsFaultOf tokens (fault.Refused refusal) = IsRefused tokens refusal
-IsFaultOf tokens fault.NoMemory = Unit {0}
 
 -- Modules that some file gives whose tokens are spelled as the lexer spells them, so that each name in them is an identifier
 -- and each list is one that the grammar has in its place.

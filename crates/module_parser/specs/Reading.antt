@@ -1,5 +1,5 @@
 -- Reading the modules of a file from tokens, from left to right.
-use Rattle.std.specs.Prelude.{ℕ, zero, suc, Bool, true, false, List, [], ◌∷◌, codes, Option, Some, None}
+use Rattle.std.specs.Prelude.{ℕ, zero, suc, ◌+◌, Bool, true, false, List, [], ◌∷◌, codes, Option, Some, None}
 use Rattle.sv_lexer.specs.declared.token.Token.{Token}
 use Rattle.sv_ast.specs.declared.expression.Id.{Id}
 use Rattle.sv_ast.specs.declared.expression.Sel.{Sel}
@@ -28,14 +28,15 @@ use Rattle.sv_ast.specs.declared.module.PortDecl.{PortDecl}
 use Rattle.sv_ast.specs.declared.module.Module.{Module}
 use Rattle.expr_parser.specs.Spelling.{is_identifier, is_this}
 use Rattle.module_parser.specs.Words.{is_keyword, is_keyword_of, is_sign_of, is_named, is_no_keyword, is_no_sign, is_any, begins_target, vector_types, integer_types, signs, parameter_words, directions, edges}
+use Rattle.expr_parser.specs.Nesting.{greatest_nesting}
 use Rattle.expr_parser.specs.Input.{Parser, ◌>>=◌, ◌>>◌, ◌<$>◌, pure, refuse}
 use Rattle.expr_parser.specs.Reading.{any}
 use Rattle.module_parser.specs.Grammar.{is_first_default, net_words, process_of, declaring_words, no_shape}
 use Rattle.module_parser.specs.Input.{take_one, pass, when, many, opened, watched}
 
--- What stands inside something of its own sort has a token before it that counts as nesting, and 256 of those are accepted.
+-- What stands inside something of its own sort has a token before it that counts as nesting.
 abbrev pub levels : ℕ
-levels = 257
+levels = greatest_nesting + 1
 
 -- ---- small parts
 

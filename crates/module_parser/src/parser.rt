@@ -1,6 +1,7 @@
 ghost use Rattle.std.specs.Prelude.{IfOk, IfErr};
+ghost use Rattle.sv_base.specs.Faults.{IfRefused};
 ghost use Rattle.expr_parser.specs.Spelled.{AreSpelled};
-ghost use Rattle.module_parser.specs.Outcome.{IsRead, AreWritten, IsFaultOf};
+ghost use Rattle.module_parser.specs.Outcome.{IsRead, IsRefused, AreWritten};
 
 use crate::cursor::Cursor;
 use crate::module::file;
@@ -10,11 +11,11 @@ use sv_ast::Module;
 use sv_lexer::Token;
 
 /// Reads all modules of a file. Where its tokens are none, the first is refused after which no file goes on, or the first
-/// at which the open nesting is 257.
+/// at which the open nesting is above `NESTING_LIMIT`.
 pub fn parse_file(alloc: Global, tokens: &Vec<Token>) -> Result<Vec<Module>, ParseFault>
     ensures read { IfOk result (λ r. IsRead tokens.now.items r.items) }
     ensures written { IfOk result (λ r. AreSpelled tokens.now.items → AreWritten r.items) }
-    ensures refused { IfErr result (IsFaultOf tokens.now.items) }
+    ensures refused { IfErr result (IfRefused (IsRefused tokens.now.items)) }
 {
     expr_parser::exact_reading();
     expr_parser::nothing_goes_on();

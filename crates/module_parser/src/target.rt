@@ -8,14 +8,14 @@ ghost use Rattle.module_parser.specs.Reading as spec;
 use crate::cursor::Cursor;
 use crate::kept::kept;
 use crate::list;
-use expr_parser::ParseFault;
+use expr_parser::{NESTING_LIMIT, ParseFault};
 use sqlite_items::{Boxed, Items};
 use std::alloc::Global;
 use sv_ast::{Expr, Id, Lval, Sel};
 
 /// How many targets, statements or items stand inside one another at most: each has a token before it that counts as
-/// nesting, and 256 of those are accepted.
-pub const LEVELS: usize = 257;
+/// nesting.
+pub const LEVELS: usize = NESTING_LIMIT as usize + 1;
 
 fn boxed_expression(alloc: Global, tokens: &mut Cursor<'_>) -> Result<Boxed<Expr>, ParseFault>
     ensures { Gives (any tokens.old) result tokens.new }

@@ -8,9 +8,9 @@ pub turn-init : goal.turn-init
 unfolding operations
 turn-init g c = first_of (search rules, grind (arith, common_steps))
 
-pub returns-then-level-least : goal.returns-then-level-least
+pub returns-then-is_looser : goal.returns-then-is_looser
 unfolding climb
-returns-then-level-least g c =
+returns-then-is_looser g c =
     let e = one_more (λ n. climb (expr c.args.self.now.depth) c.args.least n c.turn.left c.turn.tokens) _ c.turn._turn c.turn-test.true c.turn.invariant in
     first_of (search rules, grind (arith, common_steps))
 
