@@ -7,8 +7,8 @@ use Rattle.sv_ast.specs.declared.expression.Sel.{Sel}
 use Rattle.sv_ast.specs.declared.expression.Expr.{Expr, Choice, Repeat}
 use Rattle.sv_ast.specs.declared.expression.Expr.TheVariants.{outs-Choice, outs-Repeat}
 use Rattle.sv_ast.specs.declared.expression.Expr.TheFolds.{fold-Expr, map-Expr, fold_out-Expr}
-use Rattle.const_eval.specs.declared.fault.ConstFault.{ConstFault}
-use Rattle.const_eval.specs.declared.fault.ConstFault.TheVariants.{Refused}
+use Rattle.sv_base.specs.declared.fault.Fault.{Fault}
+use Rattle.sv_base.specs.declared.fault.Fault.TheVariants.{Refused}
 use Rattle.const_eval.specs.declared.joined.Joined.{Joined}
 use Rattle.const_eval.specs.declared.measured.Measured.{Measured}
 use Rattle.const_eval.specs.declared.taking.Taking.{Taking}
@@ -46,7 +46,7 @@ choice_agrees names sign test first second c a b r h1 h2 h3 all =
     agrees_behind Matches Matches b (meaning_of names true second) _ (Ok r) h3 (λ mb s. all mc ma mb p q s))))
 
 -- a choice whose last part is refused
-pub choice_refused : (names : Names) (sign : Id) (test first second : Expr) (c a : Measured) (fault : ConstFault)
+pub choice_refused : (names : Names) (sign : Id) (test first second : Expr) (c a : Measured) (fault : Fault)
     → Agrees Matches (Ok c) (meaning_of names true test) → Agrees Matches (Ok a) (meaning_of names true first) → Agrees Matches (Err fault) (meaning_of names true second)
     → Agrees Matches (Err fault) (meaning_of names true (Choice sign test first second))
 choice_refused names sign test first second c a fault h1 h2 h3 =
@@ -56,7 +56,7 @@ choice_refused names sign test first second c a fault h1 h2 h3 =
     refused_first Matches Matches fault (meaning_of names true second) _ h3)))
 
 -- a replication whose parts agree
-pub repeat_agrees : (names : Names) (place : Place) (count : Expr) (parts : List Expr) (n : Measured) (j : Joined) (r : Result Measured ConstFault)
+pub repeat_agrees : (names : Names) (place : Place) (count : Expr) (parts : List Expr) (n : Measured) (j : Joined) (r : Result Measured Fault)
     → Agrees Matches (Ok n) (meaning_of names true count) → Agrees IsJoined (Ok j) (meanings_of names true parts)
     → ((m : Meaning) (ms : List Meaning) → Matches n m → IsJoined j ms → Agrees Matches r (spec.repeated place m ms))
     → Agrees Matches r (meaning_of names true (Repeat place count parts))
@@ -68,7 +68,7 @@ repeat_agrees names place count parts n j r h1 h2 all =
 -- ---- selects
 
 -- a select that agrees
-pub select_agrees : (s : Select) (named : Named) (name : Id) (t : Taking) (r : Result Measured ConstFault) → Agrees ArePositions (Ok t) (s.positions true)
+pub select_agrees : (s : Select) (named : Named) (name : Id) (t : Taking) (r : Result Measured Fault) → Agrees ArePositions (Ok t) (s.positions true)
     → ((p : spec.Positions) → ArePositions t p → Agrees Matches r (spec.take s.place p named name)) → Agrees Matches r (spec.selected_by s true named name)
 select_agrees s named name t r h all = agrees_behind ArePositions Matches t (s.positions true) _ r h all
 
@@ -79,12 +79,12 @@ two_selects f [] a b named name long p q = absurd (omega (arith, long))
 two_selects f (x ∷ []) a b named name long p q = absurd (omega (arith, long))
 two_selects f (x ∷ y ∷ more) a b named name long p q = rw (p, q) refl
 
-pub twice_refused : (s t : Select) (x : Taking) (fault : ConstFault) → Agrees ArePositions (Ok x) (s.positions true) → Agrees ArePositions (Err fault) (t.positions true)
+pub twice_refused : (s t : Select) (x : Taking) (fault : Fault) → Agrees ArePositions (Ok x) (s.positions true) → Agrees ArePositions (Err fault) (t.positions true)
     → Agrees Matches (Err fault) (spec.twice_selected s t true)
 twice_refused s t x fault h1 h2 =
     agrees_behind ArePositions Matches x (s.positions true) _ (Err fault) h1 (λ p a. refused_first ArePositions Matches fault (t.positions true) _ h2)
 
-pub twice_told : (s t : Select) (x y : Taking) (fault : ConstFault) → Agrees ArePositions (Ok x) (s.positions true) → Agrees ArePositions (Ok y) (t.positions true)
+pub twice_told : (s t : Select) (x y : Taking) (fault : Fault) → Agrees ArePositions (Ok x) (s.positions true) → Agrees ArePositions (Ok y) (t.positions true)
     → fault ≡ Refused (spec.second_select t.place) → Agrees Matches (Err fault) (spec.twice_selected s t true)
 twice_told s t x y fault h1 h2 told =
     agrees_behind ArePositions Matches x (s.positions true) _ (Err fault) h1 (λ p a.

@@ -4,7 +4,7 @@ use Rattle.std.proofs.Common.{ℕ, suc, ◌+◌, ◌<◌, ◌≤◌, length, dro
 use Rattle.std.proofs.lemmas.List.{append-nil}
 use Rattle.sv_base.specs.declared.refusal.Refusal.{Refusal}
 use Rattle.sv_ast.specs.declared.expression.Expr.{Expr}
-use Rattle.const_eval.specs.declared.fault.ConstFault.{ConstFault}
+use Rattle.sv_base.specs.declared.fault.Fault.{Fault}
 use Rattle.const_eval.specs.declared.joined.Joined.{Joined}
 use Rattle.const_eval.specs.declared.joined.Joined.TheVariants.{Nothing}
 use Rattle.const_eval.specs.declared.measured.Measured.{Measured}
@@ -55,7 +55,7 @@ goes_on names j k a e left parts h here step = by_meaning (meaning_of names true
     by_meaning (Err refusal) is here = absurd here
 
 -- a part that is refused
-pub is_refused : (names : Names) (j : Joined) (fault : ConstFault) (e : Expr) (left parts : List Expr) → Joins names j (e ∷ left) parts → Agrees Matches (Err fault) (meaning_of names true e) → Agrees IsJoined (Err fault) (meanings_of names true parts)
+pub is_refused : (names : Names) (j : Joined) (fault : Fault) (e : Expr) (left parts : List Expr) → Joins names j (e ∷ left) parts → Agrees Matches (Err fault) (meaning_of names true e) → Agrees IsJoined (Err fault) (meanings_of names true parts)
 is_refused names j fault e left parts h here =
     rw (h.whole) (refused_first IsJoined IsJoined fault (meanings_of names true (e ∷ left)) (λ more. Ok (h.before ++ more))
     (refused_first Matches IsJoined fault (meaning_of names true e) (λ m. meanings_of names true left >>= λ ms. Ok (m ∷ ms)) here))

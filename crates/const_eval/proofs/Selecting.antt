@@ -9,8 +9,8 @@ use Rattle.sv_base.specs.declared.refusal.Place.{Place}
 use Rattle.sv_base.specs.declared.refusal.Refusal.{Refusal}
 use Rattle.sv_ast.specs.declared.expression.Id.{Id}
 use Rattle.const_eval.specs.declared.env.Const.{Const}
-use Rattle.const_eval.specs.declared.fault.ConstFault.{ConstFault}
-use Rattle.const_eval.specs.declared.fault.ConstFault.TheVariants.{Refused, NoMemory}
+use Rattle.sv_base.specs.declared.fault.Fault.{Fault}
+use Rattle.sv_base.specs.declared.fault.Fault.TheVariants.{Refused, NoMemory}
 use Rattle.const_eval.specs.declared.measured.Measured.{Measured}
 use Rattle.const_eval.specs.declared.taking.Taking.{Taking}
 use Rattle.const_eval.specs.declared.taking.Taking.TheVariants as taking
@@ -44,18 +44,18 @@ taken_holds place z position c low name w m h matches = go (as_width (refused_at
     go (Err refusal) e = absurd e
 
 -- a width that was not found
-pub taken_fails : (place : Place) (z : ℤ) (position : ℕ → ℤ) (c : Const) (low : ℕ) (name : Id) (fault : ConstFault)
+pub taken_fails : (place : Place) (z : ℤ) (position : ℕ → ℤ) (c : Const) (low : ℕ) (name : Id) (fault : Fault)
     → Agrees {X = ℕ} {Y = ℕ} (λ w n. w ≡ n) (Err fault) (as_width (refused_at BadRange name) place z)
     → Agrees Matches (Err fault) (taken place z position (constant_named c low) name)
 taken_fails place z position c low name fault h = go (as_width (refused_at BadRange name) place z) fault h
   where
-    go : (r : Result ℕ Refusal) (f : ConstFault) → Agrees {X = ℕ} {Y = ℕ} (λ w n. w ≡ n) (Err f) r → Agrees Matches (Err f) (r >>= λ w. Ok (part (constant_named c low) (position w) w))
+    go : (r : Result ℕ Refusal) (f : Fault) → Agrees {X = ℕ} {Y = ℕ} (λ w n. w ≡ n) (Err f) r → Agrees Matches (Err f) (r >>= λ w. Ok (part (constant_named c low) (position w) w))
     go (Ok n) (Refused told) e = absurd e
     go (Ok n) NoMemory e = e
     go (Err refusal) f e = e
 
 -- a part from one position down to another
-pub of_down_to : (t : Taking) (place : Place) (a b : Measured) → t ≡ taking.DownTo place a b → (result : Result Measured ConstFault) (named : Named) (name : Id)
+pub of_down_to : (t : Taking) (place : Place) (a b : Measured) → t ≡ taking.DownTo place a b → (result : Result Measured Fault) (named : Named) (name : Id)
     → ((high low : Meaning) → Matches a high → Matches b low → Agrees Matches result (take place (DownTo high low) named name))
     → (positions : Positions) → ArePositions t positions → Agrees Matches result (take (place_of t) positions named name)
 of_down_to t place a b e result named name k positions h = rw e (go positions (rw e at h))
@@ -67,7 +67,7 @@ of_down_to t place a b e result named name k positions h = rw e (go positions (r
     go (DownFrom p width) r = absurd r
 
 -- a part of a width from a position up
-pub of_up_from : (t : Taking) (place : Place) (a b : Measured) → t ≡ taking.UpFrom place a b → (result : Result Measured ConstFault) (named : Named) (name : Id)
+pub of_up_from : (t : Taking) (place : Place) (a b : Measured) → t ≡ taking.UpFrom place a b → (result : Result Measured Fault) (named : Named) (name : Id)
     → ((p width : Meaning) → Matches a p → Matches b width → Agrees Matches result (take place (UpFrom p width) named name))
     → (positions : Positions) → ArePositions t positions → Agrees Matches result (take (place_of t) positions named name)
 of_up_from t place a b e result named name k positions h = rw e (go positions (rw e at h))
@@ -79,7 +79,7 @@ of_up_from t place a b e result named name k positions h = rw e (go positions (r
     go (DownFrom p width) r = absurd r
 
 -- a part of a width from a position down
-pub of_down_from : (t : Taking) (place : Place) (a b : Measured) → t ≡ taking.DownFrom place a b → (result : Result Measured ConstFault) (named : Named) (name : Id)
+pub of_down_from : (t : Taking) (place : Place) (a b : Measured) → t ≡ taking.DownFrom place a b → (result : Result Measured Fault) (named : Named) (name : Id)
     → ((p width : Meaning) → Matches a p → Matches b width → Agrees Matches result (take place (DownFrom p width) named name))
     → (positions : Positions) → ArePositions t positions → Agrees Matches result (take (place_of t) positions named name)
 of_down_from t place a b e result named name k positions h = rw e (go positions (rw e at h))

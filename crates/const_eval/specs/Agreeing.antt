@@ -4,9 +4,9 @@ use Rattle.bit_ops.specs.Meaning.{signed_of}
 use Rattle.bit_ops.specs.declared.value.TheConstants.{MAX_WIDTH}
 use Rattle.sv_base.specs.declared.refusal.Refusal.{Refusal}
 use Rattle.sv_base.specs.declared.refusal.Place.{Place}
+use Rattle.sv_base.specs.declared.fault.Fault.{Fault}
+use Rattle.sv_base.specs.Faults.{IfRefused}
 use Rattle.const_eval.specs.declared.env.Const.{Const}
-use Rattle.const_eval.specs.declared.fault.ConstFault.{ConstFault}
-use Rattle.const_eval.specs.declared.fault.ConstFault.TheVariants.{Refused, NoMemory}
 use Rattle.const_eval.specs.declared.measured.Measured.{Measured}
 use Rattle.const_eval.specs.declared.joined.Joined.{Joined}
 use Rattle.const_eval.specs.declared.joined.Joined.TheVariants.{Nothing, Whole, TooWide}
@@ -20,13 +20,8 @@ use Rattle.const_eval.specs.Waiting.{value_of}
 use Rattle.const_eval.specs.Selects.{Named, total, joined}
 use Rattle.const_eval.specs.Constant.{constant_named}
 
--- a refused fault's refusal has a property; of want of memory nothing is said
-abbrev pub IfRefused : (Refusal → Type 0) → ConstFault → Type 0
-IfRefused P (Refused refusal) = P refusal
-IfRefused P NoMemory = ⊤
-
 -- what was found is related to what is defined, or the refusals are one, unless memory ran out
-abbrev pub Agrees : {X Y : Type 0} → (X → Y → Type 0) → Result X ConstFault → Result Y Refusal → Type 0
+abbrev pub Agrees : {X Y : Type 0} → (X → Y → Type 0) → Result X Fault → Result Y Refusal → Type 0
 Agrees R (Ok x) (Ok y) = R x y
 Agrees R (Ok x) (Err refusal) = ⊥
 Agrees R (Err fault) (Ok y) = IfRefused (λ refusal. ⊥) fault

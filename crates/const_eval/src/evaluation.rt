@@ -2,7 +2,7 @@
 
 ghost use Rattle.std.specs.Prelude.{◌≡◌, IfOk, IfErr, Err};
 ghost use Rattle.const_eval.specs.Constant.{constant_of, IsConstant};
-ghost use Rattle.const_eval.specs.Agreeing.{IfRefused};
+ghost use Rattle.sv_base.specs.Faults.{IfRefused};
 
 use crate::env::{Const, Env};
 use crate::fault::ConstFault;

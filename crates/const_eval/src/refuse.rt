@@ -1,7 +1,7 @@
 //! Refusals of expressions, and widths.
 
 ghost use Rattle.std.specs.Prelude.{◌≡◌, IfOk};
-ghost use Rattle.const_eval.specs.declared.fault.ConstFault.TheVariants.{Refused};
+ghost use Rattle.sv_base.specs.declared.fault.Fault.TheVariants.{Refused};
 ghost use Rattle.const_eval.specs.Expressions as spec;
 ghost use Rattle.const_eval.specs.Agreeing.{Agrees};
 ghost use Rattle.sv_base.specs.declared.kind.Kind.TheVariants.{BadRange};

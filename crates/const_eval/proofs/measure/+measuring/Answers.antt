@@ -1,6 +1,6 @@
 use Rattle.std.proofs.Common.{◌+◌, true, Ok, Err, ap, ◌∙◌, drop}
 use Rattle.std.proofs.lemmas.Result.{err_from_is_err_and}
-use Rattle.const_eval.specs.declared.fault.ConstFault.TheVariants.{Refused}
+use Rattle.sv_base.specs.declared.fault.Fault.TheVariants.{Refused}
 use Rattle.const_eval.specs.Constant.{names_of, constant_named}
 use Rattle.const_eval.specs.Expressions.{meaning_of, meanings_of, select_of, second_select}
 use Rattle.const_eval.specs.Agreeing.{Agrees, Matches, IsJoined}
