@@ -1,12 +1,12 @@
 -- Parts and copies, joined.
-use Rattle.std.proofs.Common.{◌≡◌, ℕ, ◌+◌, ◌*◌, ◌<◌, List, [], ◌∷◌, ◌++◌, Err, true, false, nat_eq, nat_lt, pos, refl, ap, ◌∙◌, arith}
-use Rattle.std.specs.Prelude.{int_lt, unsigned_abs}
+use Rattle.std.proofs.Common.{◌≡◌, ℕ, ◌+◌, ◌*◌, ◌<◌, ◌≤◌, ℤ, pos, negsuc, List, [], ◌∷◌, ◌++◌, Err, refl, ap, ◌∙◌, arith}
 use Rattle.std.proofs.lemmas.Nat.{pow-add}
-use Rattle.std.proofs.lemmas.Bool.{ne_eqb, lt-ltb}
+use Rattle.std.proofs.lemmas.Bool.{ne_eqb, lt-ltb, le-ltb}
 use Rattle.bit_ops.specs.declared.value.TheConstants.{MAX_WIDTH}
 use Rattle.bit_ops.specs.Meaning.{concat_of}
 use Rattle.sv_base.specs.declared.kind.Kind.TheVariants as kind
 use Rattle.sv_base.specs.declared.refusal.Place.{Place}
+use Rattle.const_eval.specs.WholeNumbers.{count_of}
 use Rattle.const_eval.specs.Meaning.{Meaning, own, number}
 use Rattle.const_eval.specs.Expressions as spec
 use Rattle.const_eval.specs.Selects.{total, joined}
@@ -29,9 +29,10 @@ joined_more (l ∷ ms) m =
     ∙ concat_above (total ms) m.size (own l) (joined ms) (own m)
 
 -- too many copies
-pub too_many : (place : Place) (n : Meaning) (ms : List Meaning) → int_lt (number n) (pos 1) ≡ false → MAX_WIDTH < unsigned_abs (number n) * total ms
+pub too_many : (place : Place) (n : Meaning) (ms : List Meaning) → 1 ≤ count_of (number n) → MAX_WIDTH < count_of (number n) * total ms
     → spec.repeated place n ms ≡ Err (spec.unnamed_at kind.TooWide place)
-too_many place n ms least wide =
-    let some : nat_eq (unsigned_abs (number n) * total ms) 0 ≡ false = ne_eqb _ _ (λ e. omega arith) in
-    let over : nat_lt MAX_WIDTH (unsigned_abs (number n) * total ms) ≡ true = lt-ltb _ _ wide in
-    rw (least, some, over) refl
+too_many place n ms least wide = go (number n) refl least wide
+  where
+    go : (z : ℤ) → number n ≡ z → 1 ≤ count_of z → MAX_WIDTH < count_of z * total ms → spec.repeated place n ms ≡ Err (spec.unnamed_at kind.TooWide place)
+    go (pos k) e h f = rw (e, le-ltb k 1 h, ne_eqb (k * total ms) 0 (λ none. omega arith), lt-ltb MAX_WIDTH (k * total ms) f) refl
+    go (negsuc k) e h f = absurd (omega (arith, h))

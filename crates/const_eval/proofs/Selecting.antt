@@ -1,9 +1,6 @@
 -- What is taken of a constant agrees with its select.
-use Rattle.std.proofs.Common.{◌≡◌, ℕ, ◌≤◌, ℤ, pos, Bool, true, false, Result, Ok, Err, nat_lt, refl, subst, arith}
-use Rattle.std.specs.Prelude.{int_lt, unsigned_abs}
-use Rattle.std.proofs.lemmas.Bool.{ltb-false}
-use Rattle.bit_ops.specs.Width.{IsWidth}
-use Rattle.bit_ops.specs.declared.value.TheConstants.{MAX_WIDTH}
+use Rattle.std.proofs.Common.{◌≡◌, ℕ, ◌+◌, ◌-◌, ◌≤◌, ℤ, pos, ◌+ℤ◌, ◌-ℤ◌, Result, Ok, Err, subst, arith}
+use Rattle.std.proofs.lemmas.Int.{ints}
 use Rattle.sv_base.specs.declared.kind.Kind.TheVariants.{BadRange}
 use Rattle.sv_base.specs.declared.refusal.Place.{Place}
 use Rattle.sv_base.specs.declared.refusal.Refusal.{Refusal}
@@ -19,19 +16,18 @@ use Rattle.const_eval.specs.Selects.{Named, part}
 use Rattle.const_eval.specs.Constant.{constant_named}
 use Rattle.const_eval.specs.Expressions.{Positions, At, DownTo, UpFrom, DownFrom, as_width, refused_at, taken, take, ◌>>=◌}
 use Rattle.const_eval.specs.Agreeing.{Agrees, Matches, ArePositions, place_of}
-use Rattle.const_eval.proofs.Counts.{counted}
 
--- a width that was found is that of a value
-pub width_fits : (below : Refusal) (place : Place) (z : ℤ) (w : ℕ) → Agrees {X = ℕ} {Y = ℕ} (λ w n. w ≡ n) (Ok w) (as_width below place z) → IsWidth w
-width_fits below place z w h = go (int_lt z (pos 1)) refl (nat_lt MAX_WIDTH (unsigned_abs z)) refl
-  where
-    go : (less : Bool) → int_lt z (pos 1) ≡ less → (more : Bool) → nat_lt MAX_WIDTH (unsigned_abs z) ≡ more → IsWidth w
-    go true e more f = absurd (rw e at h)
-    go false e true f = absurd (rw (e, f) at h)
-    go false e false f =
-        let same : w ≡ unsigned_abs z = rw (e, f) at h in
-        let most : unsigned_abs z ≤ MAX_WIDTH = ltb-false MAX_WIDTH (unsigned_abs z) f in
-        (omega (arith, counted z e), omega arith)
+-- no position further down
+pub no_further : (z : ℤ) → z -ℤ pos 0 ≡ z
+no_further z = omega (arith, ints)
+
+-- so far down that a width ends at the position
+pub ends_there : (z : ℤ) (w : ℕ) → 1 ≤ w → z -ℤ pos (w - 1) ≡ z -ℤ pos w +ℤ pos 1
+ends_there z w h = omega (arith, ints)
+
+-- the lowest position and so far down together
+pub both_down : (z : ℤ) (a b low down : ℕ) → a ≡ low → b ≡ down → z -ℤ pos (a + b) ≡ z -ℤ pos down -ℤ pos low
+both_down z a b low down e f = omega (arith, ints)
 
 -- bits of a width that was found
 pub taken_holds : (place : Place) (z : ℤ) (position : ℕ → ℤ) (c : Const) (low : ℕ) (name : Id) (w : ℕ) (m : Measured)
@@ -53,6 +49,18 @@ taken_fails place z position c low name fault h = go (as_width (refused_at BadRa
     go (Ok n) (Refused told) e = absurd e
     go (Ok n) NoMemory e = e
     go (Err refusal) f e = e
+
+-- a bit at a position
+pub of_at : (t : Taking) (place : Place) (a : Measured) → t ≡ taking.At place a → (result : Result Measured Fault) (named : Named) (name : Id)
+    → ((p : Meaning) → Matches a p → Agrees Matches result (take place (At p) named name))
+    → (positions : Positions) → ArePositions t positions → Agrees Matches result (take (place_of t) positions named name)
+of_at t place a e result named name k positions h = rw e (go positions (rw e at h))
+  where
+    go : (p : Positions) → ArePositions (taking.At place a) p → Agrees Matches result (take place p named name)
+    go (At p) r = k p r
+    go (DownTo high low) r = absurd r
+    go (UpFrom p width) r = absurd r
+    go (DownFrom p width) r = absurd r
 
 -- a part from one position down to another
 pub of_down_to : (t : Taking) (place : Place) (a b : Measured) → t ≡ taking.DownTo place a b → (result : Result Measured Fault) (named : Named) (name : Id)

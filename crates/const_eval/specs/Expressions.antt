@@ -1,11 +1,15 @@
 -- What an expression means where names mean something, or its first refusal.
 use Rattle.std.specs.Prelude.{ℕ, ◌*◌, ◌==◌, Bool, true, false, not, ◌&&◌, nat_lt, ℤ, pos, ◌+ℤ◌, ◌-ℤ◌, int_lt, unsigned_abs, if◌then◌else◌, List, [], ◌∷◌, map, Option, None, Some, Result, Ok, Err, codes}
-use Rattle.std.specs.Str.{bytes_eq}
 use Rattle.bit_ops.specs.declared.value.TheConstants.{MAX_WIDTH}
 use Rattle.sv_base.specs.declared.kind.Kind.{Kind}
 use Rattle.sv_base.specs.declared.kind.Kind.TheVariants as kind
 use Rattle.sv_base.specs.declared.refusal.Place.{Place}
 use Rattle.sv_base.specs.declared.refusal.Refusal.{Refusal}
+use Rattle.sv_base.specs.declared.operator.Binary.{Binary}
+use Rattle.sv_base.specs.declared.operator.Binary.TheVariants as operator
+use Rattle.sv_base.specs.declared.operator.Function.{Function}
+use Rattle.sv_base.specs.declared.operator.Function.TheVariants as function
+use Rattle.sv_base.specs.Operators.{unary_of, binary_of, function_of}
 use Rattle.sv_ast.specs.declared.expression.Id.{Id}
 use Rattle.sv_ast.specs.declared.expression.Sel.{Sel}
 use Rattle.sv_ast.specs.declared.expression.Expr.{Expr}
@@ -14,7 +18,7 @@ use Rattle.sv_ast.specs.declared.expression.Expr.TheOpen.{Expr-F, Sel-F}
 use Rattle.sv_ast.specs.declared.expression.Expr.TheFolds.{fold-Expr, fold-Sel}
 use Rattle.const_eval.specs.Literal.{number_of, fill_of}
 use Rattle.const_eval.specs.Meaning.{Meaning, number, alone, fill, chosen}
-use Rattle.const_eval.specs.Operators.{unary_by, binary_by, function_by, power}
+use Rattle.const_eval.specs.Operators.{unary_by, binary_by, function_by}
 use Rattle.const_eval.specs.Selects.{Named, part, total, joined, copies}
 
 -- what each visible name means
@@ -133,20 +137,23 @@ is_negative m = int_lt (number m) (pos 0)
 -- a power of constants, whose exponent is not negative
 abbrev pub raised : Bool → Id → Meaning → Meaning → Judged
 raised needed sign a b = for_constants needed sign >>= λ _.
-    if is_negative b then Err (unnamed_at kind.BadRange sign.place) else Ok (power a b)
+    if is_negative b then Err (unnamed_at kind.BadRange sign.place) else Ok (binary_by operator.Power a b)
 
--- an operator between operands that mean these
+-- an operator between operands that mean these: a power asks something of them, the others nothing
+abbrev pub binary_judged : Binary → Bool → Id → Meaning → Meaning → Judged
+binary_judged operator.Power needed sign a b = raised needed sign a b
+binary_judged other needed sign a b = Ok (binary_by other a b)
+
+-- what a text between operands that mean these makes of them
 abbrev pub binary_on : Bool → Id → Meaning → Meaning → Judged
-binary_on needed sign a b =
-    if bytes_eq sign.name (codes "**") then raised needed sign a b
-    else (or_refused (refused_at kind.Unexpected sign) (binary_by sign.name) >>= λ f. Ok (f a b))
+binary_on needed sign a b = or_refused (refused_at kind.Unexpected sign) (binary_of sign.name) >>= λ found. binary_judged found needed sign a b
 
 abbrev pub binary : Id → (Bool → Judged) → (Bool → Judged) → Bool → Judged
 binary sign left right needed = left needed >>= λ a. right needed >>= λ b. binary_on needed sign a b
 
 -- an operator before an operand that means this
 abbrev pub unary_on : Id → Meaning → Judged
-unary_on sign a = or_refused (refused_at kind.Unexpected sign) (unary_by sign.name) >>= λ f. Ok (f a)
+unary_on sign a = or_refused (refused_at kind.Unexpected sign) (unary_of sign.name) >>= λ found. Ok (unary_by found a)
 
 abbrev pub unary : Id → (Bool → Judged) → Bool → Judged
 unary sign operand needed = operand needed >>= λ a. unary_on sign a
@@ -155,10 +162,15 @@ unary sign operand needed = operand needed >>= λ a. unary_on sign a
 abbrev pub choice : (Bool → Judged) → (Bool → Judged) → (Bool → Judged) → Bool → Judged
 choice test first second needed = test needed >>= λ c. first needed >>= λ a. second needed >>= λ b. Ok (chosen c a b)
 
--- a system function of an argument that means this; `$clog2` only constants have
+-- a system function of an argument that means this; a logarithm only constants have
+abbrev pub function_judged : Function → Bool → Id → Meaning → Judged
+function_judged function.Signed needed name a = Ok (function_by function.Signed a)
+function_judged function.Unsigned needed name a = Ok (function_by function.Unsigned a)
+function_judged function.Logarithm needed name a = for_constants needed name >>= λ _. Ok (function_by function.Logarithm a)
+
+-- what a system name makes of an argument that means this
 abbrev pub system_on : Bool → Id → Meaning → Judged
-system_on needed name a = (if bytes_eq name.name (codes "$clog2") then for_constants needed name else Ok tt) >>= λ _.
-    or_refused (refused_at kind.Unexpected name) (function_by name.name) >>= λ f. Ok (f a)
+system_on needed name a = or_refused (refused_at kind.Unexpected name) (function_of name.name) >>= λ found. function_judged found needed name a
 
 abbrev pub system : Id → (Bool → Judged) → Bool → Judged
 system name argument needed = argument needed >>= λ a. system_on needed name a

@@ -1,9 +1,10 @@
 pub mod Literal
+pub mod WholeNumbers
 pub mod Meaning
 pub mod Operators
 pub mod Selects
 pub mod Expressions
 pub mod Constant
 pub mod Waiting
-pub mod Signs
+pub mod Shapes
 pub mod Agreeing

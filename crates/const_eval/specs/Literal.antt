@@ -1,7 +1,7 @@
 -- What the texts of numbers and fills mean.
 use Rattle.std.specs.Prelude.{ℕ, ◌+◌, ◌%◌, ◌^◌, Bool, true, false, ◌&&◌, ◌||◌, ◌==◌, nat_lt, nat_le, if◌then◌else◌, List, [], ◌∷◌, take, drop, position, Option, None, Some, codes}
-use Rattle.std.specs.Str.{bytes_eq}
 use Rattle.bit_ops.specs.declared.value.TheConstants.{MAX_WIDTH}
+use Rattle.sv_base.specs.Operators.{row_of}
 use Rattle.sv_lexer.specs.Bytes.{spelled}
 
 -- what a number means: how many bits it has, whether it is signed, and its bits as an unsigned number
@@ -20,10 +20,10 @@ radix_of letter =
 abbrev pub is_width : ℕ → Bool
 is_width w = nat_le 1 w && nat_le w MAX_WIDTH
 
--- digits of a radix cut to a size, where a value may have that size and a word of 64 bits holds their number
+-- digits of a radix cut to a size, where a value may have that size and a word of the greatest width holds their number
 abbrev pub cut_to : ℕ → Bool → ℕ → List ℕ → Option Literal
 cut_to size signed radix digits =
-    if is_width size && nat_lt (spelled radix digits) (2 ^ 64)
+    if is_width size && nat_lt (spelled radix digits) (2 ^ MAX_WIDTH)
     then Some (record { size = size; signed = signed; word = spelled radix digits % 2 ^ size }) else None
 
 abbrev pub with_radix : ℕ → Bool → Option ℕ → List ℕ → Option Literal
@@ -58,6 +58,10 @@ number_at (Some k) text = behind_quote (size_of (take k text)) (drop (k + 1) tex
 abbrev pub number_of : List ℕ → Option Literal
 number_of text = number_at (position (λ b. b == 39) text) text
 
--- whether a fill is of 1 or of 0, and nothing for a text that is no fill (5.7.1)
+-- the fills, with whether each is of 1 or of 0 (5.7.1)
+abbrev pub fill_rows : List (List ℕ × Bool)
+fill_rows = (codes "'0", false) ∷ (codes "'1", true) ∷ []
+
+-- whether a fill is of 1 or of 0, and nothing for a text that is no fill
 abbrev pub fill_of : List ℕ → Option Bool
-fill_of text = if bytes_eq text (codes "'1") then Some true else (if bytes_eq text (codes "'0") then Some false else None)
+fill_of text = row_of fill_rows text

@@ -1,14 +1,12 @@
 //! Operators and functions on what was measured (IEEE 1800-2017, 11.4, 20.8.1).
 
 ghost use Rattle.std.specs.Prelude.{◌≡◌, true, IfOk};
-ghost use Rattle.std.specs.Str.{bytes_eq};
 ghost use Rattle.const_eval.specs.Meaning as meaning;
 ghost use Rattle.const_eval.specs.Meaning.{Meaning};
-ghost use Rattle.const_eval.specs.Signs.{unary_meaning, binary_meaning};
 ghost use Rattle.const_eval.specs.Operators as operators;
 ghost use Rattle.const_eval.specs.Expressions as spec;
 ghost use Rattle.const_eval.specs.Waiting as waiting;
-ghost use Rattle.const_eval.specs.Signs as signs;
+ghost use Rattle.const_eval.specs.Shapes as shapes;
 ghost use Rattle.const_eval.specs.Agreeing.{Agrees, Matches};
 
 use crate::fault::ConstFault;
@@ -17,12 +15,12 @@ use crate::own::{alone, flag};
 use crate::pending::{Change, Movement, Operation, Pending, evaluate};
 use crate::power::logarithm;
 use crate::refuse::{refused_at, unnamed_at};
-use crate::sign::{Binary, Comparison, Reduction, Unary, binary_of, unary_of};
+use crate::shape::{BinaryShape, Comparison, Reduction, UnaryShape};
 use bit_ops::{Bits, Word};
 use sqlite_items::Boxed;
 use std::alloc::{AllocError, Global};
 use sv_ast::Id;
-use sv_base::Kind;
+use sv_base::{Binary, Function, Kind, Unary};
 
 /// What is done to an operand in its context.
 fn changed(alloc: Global, change: Change, a: Measured) -> Result<Measured, AllocError>
@@ -42,7 +40,7 @@ fn changed(alloc: Global, change: Change, a: Measured) -> Result<Measured, Alloc
 
 /// The bit of a reduction, turned or not.
 fn reduced(reduction: Reduction, turn: bool, a: &Measured) -> Measured
-    ensures { (m : Meaning) → Matches a.now m → Matches result (meaning.reduced (λ w x. signs.turned turn (signs.reduced_by reduction w x)) m) }
+    ensures { (m : Meaning) → Matches a.now m → Matches result (meaning.reduced (λ w x. shapes.turned turn (shapes.reduced_by reduction w x)) m) }
 {
     let own = a.own();
     let bit = match reduction {
@@ -57,20 +55,20 @@ fn reduced(reduction: Reduction, turn: bool, a: &Measured) -> Measured
 fn turned(turn: bool, bit: Bits) -> Bits
     requires { bit.width ≡ 1 }
     ensures width { result.width ≡ 1 }
-    ensures word { result.word ≡ signs.turned turn bit.word }
+    ensures word { result.word ≡ shapes.turned turn bit.word }
 {
     if turn { bit_ops::bit_not(bit) } else { bit }
 }
 
-/// An operator before an operand.
-pub fn unary(alloc: Global, operator: Unary, a: Measured) -> Result<Measured, AllocError>
-    ensures { (m : Meaning) → Matches a m → IfOk result (λ r. Matches r (unary_meaning operator m)) }
+/// What an operator of a shape makes of the operand behind it.
+fn unary(alloc: Global, shape: UnaryShape, a: Measured) -> Result<Measured, AllocError>
+    ensures { (m : Meaning) → Matches a m → IfOk result (λ r. Matches r (shapes.unary_meaning shape m)) }
 {
-    match operator {
-        Unary::Same => Ok(a),
-        Unary::Change(change) => changed(alloc, change, a),
-        Unary::LogicalNot => Ok(flag(!a.holds())),
-        Unary::Reduction(reduction, turn) => Ok(reduced(reduction, turn, &a)),
+    match shape {
+        UnaryShape::Same => Ok(a),
+        UnaryShape::Change(change) => changed(alloc, change, a),
+        UnaryShape::LogicalNot => Ok(flag(!a.holds())),
+        UnaryShape::Reduction(reduction, turn) => Ok(reduced(reduction, turn, &a)),
     }
 }
 
@@ -96,7 +94,7 @@ fn combined(
 
 /// The bit of a comparison, turned or not: each operand is the other's context.
 fn compared(comparison: Comparison, turn: bool, a: &Measured, b: &Measured) -> Measured
-    ensures { (m n : Meaning) → Matches a.now m → Matches b.now n → Matches result (meaning.compared (λ w s x y. signs.turned turn (signs.compared_by comparison w s x y)) m n) }
+    ensures { (m n : Meaning) → Matches a.now m → Matches b.now n → Matches result (meaning.compared (λ w s x y. shapes.turned turn (shapes.compared_by comparison w s x y)) m n) }
 {
     let size = a.size.max(b.size);
     let signed = a.signed && b.signed;
@@ -111,7 +109,7 @@ fn compared(comparison: Comparison, turn: bool, a: &Measured, b: &Measured) -> M
 fn comparison_bit(comparison: Comparison, signed: bool, a: Bits, b: Bits) -> Bits
     requires { a.width ≡ b.width }
     ensures width { result.width ≡ 1 }
-    ensures word { result.word ≡ signs.compared_by comparison a.width signed a.word b.word }
+    ensures word { result.word ≡ shapes.compared_by comparison a.width signed a.word b.word }
 {
     match comparison {
         Comparison::Equal => bit_ops::eq(a, b),
@@ -154,21 +152,21 @@ pub fn moved(
     })
 }
 
-/// An operator between two operands.
-pub fn binary(
+/// What an operator of a shape makes of two operands.
+fn binary(
     alloc: Global,
-    operator: Binary,
+    shape: BinaryShape,
     a: Measured,
     b: Measured,
 ) -> Result<Measured, AllocError>
-    ensures { (m n : Meaning) → Matches a m → Matches b n → IfOk result (λ r. Matches r (binary_meaning operator m n)) }
+    ensures { (m n : Meaning) → Matches a m → Matches b n → IfOk result (λ r. Matches r (shapes.binary_meaning shape m n)) }
 {
-    match operator {
-        Binary::Operation(operation) => combined(alloc, operation, a, b),
-        Binary::Comparison(comparison, turn) => Ok(compared(comparison, turn, &a, &b)),
-        Binary::LogicalAnd => Ok(flag(a.holds() && b.holds())),
-        Binary::LogicalOr => Ok(flag(a.holds() || b.holds())),
-        Binary::Movement(movement) => moved(alloc, movement, a, &b),
+    match shape {
+        BinaryShape::Operation(operation) => combined(alloc, operation, a, b),
+        BinaryShape::Comparison(comparison, turn) => Ok(compared(comparison, turn, &a, &b)),
+        BinaryShape::LogicalAnd => Ok(flag(a.holds() && b.holds())),
+        BinaryShape::LogicalOr => Ok(flag(a.holds() || b.holds())),
+        BinaryShape::Movement(movement) => moved(alloc, movement, a, &b),
     }
 }
 
@@ -194,8 +192,8 @@ pub fn chosen(condition: &Measured, a: Measured, b: Measured) -> Measured
 pub fn unary_by(alloc: Global, sign: &Id, a: Measured) -> Result<Measured, ConstFault>
     ensures { (m : Meaning) → Matches a m → Agrees Matches result (spec.unary_on sign.now m) }
 {
-    match unary_of(sign.name.bytes()) {
-        Some(operator) => Ok(unary(alloc, operator, a)?),
+    match Unary::of(sign.name.bytes()) {
+        Some(operator) => Ok(unary(alloc, UnaryShape::of(operator), a)?),
         None => Err(refused_at(alloc, Kind::Unexpected, sign)?),
     }
 }
@@ -204,45 +202,49 @@ pub fn unary_by(alloc: Global, sign: &Id, a: Measured) -> Result<Measured, Const
 fn raised(alloc: Global, sign: &Id, a: Measured, b: &Measured) -> Result<Measured, ConstFault>
     ensures { (m n : Meaning) → Matches a m → Matches b.now n → Agrees Matches result (spec.raised true sign.now m n) }
 {
-    if b.number() < 0 {
+    if b.number().is_negative() {
         return Err(unnamed_at(alloc, Kind::BadRange, sign.place));
     }
     Ok(moved(alloc, Movement::Power, a, b)?)
+}
+
+/// An operator between two operands: a power asks something of them, the others nothing.
+fn binary_judged(
+    alloc: Global,
+    operator: Binary,
+    sign: &Id,
+    a: Measured,
+    b: Measured,
+) -> Result<Measured, ConstFault>
+    ensures { (m n : Meaning) → Matches a m → Matches b n → Agrees Matches result (spec.binary_judged operator true sign.now m n) }
+{
+    match operator {
+        Binary::Power => raised(alloc, sign, a, &b),
+        _ => Ok(binary(alloc, BinaryShape::of(operator), a, b)?),
+    }
 }
 
 /// An operator between two operands, by its sign.
 pub fn binary_by(alloc: Global, sign: &Id, a: Measured, b: Measured) -> Result<Measured, ConstFault>
     ensures { (m n : Meaning) → Matches a m → Matches b n → Agrees Matches result (spec.binary_on true sign.now m n) }
 {
-    if is_text(sign, b"**") {
-        return raised(alloc, sign, a, &b);
-    }
-    match binary_of(sign.name.bytes()) {
-        Some(operator) => Ok(binary(alloc, operator, a, b)?),
+    match Binary::of(sign.name.bytes()) {
+        Some(operator) => binary_judged(alloc, operator, sign, a, b),
         None => Err(refused_at(alloc, Kind::Unexpected, sign)?),
     }
 }
 
-/// Whether a name is this text.
-fn is_text(id: &Id, text: &[u8]) -> bool
-    ensures { result ≡ bytes_eq id.now.name text.now }
-{
-    id.name.bytes() == text
-}
-
 /// A system function, by its name.
-#[tactic(auto, unfolding(crate::specs::Operators::function_by))]
 pub fn function_by(alloc: Global, name: &Id, a: &Measured) -> Result<Measured, ConstFault>
     ensures { (m : Meaning) → Matches a.now m → Agrees Matches result (spec.system_on true name.now m) }
 {
     let own = a.own();
-    if is_text(name, b"$signed") {
-        Ok(alone(own, true))
-    } else if is_text(name, b"$unsigned") {
-        Ok(alone(own, false))
-    } else if is_text(name, b"$clog2") {
-        Ok(alone(Bits::truncated(32, Word::from(logarithm(own.word))), true))
-    } else {
-        Err(refused_at(alloc, Kind::Unexpected, name)?)
+    match Function::of(name.name.bytes()) {
+        Some(Function::Signed) => Ok(alone(own, true)),
+        Some(Function::Unsigned) => Ok(alone(own, false)),
+        Some(Function::Logarithm) => {
+            Ok(alone(Bits::truncated(32, Word::from(logarithm(own.word))), true))
+        }
+        None => Err(refused_at(alloc, Kind::Unexpected, name)?),
     }
 }

@@ -13,7 +13,7 @@ use crate::joined::Joined;
 use crate::measured::Measured;
 use crate::own::alone;
 use crate::refuse::unnamed_at;
-use bit_ops::{Bits, MAX_WIDTH};
+use bit_ops::{Bits, MAX_WIDTH, Word};
 use std::alloc::Global;
 use sv_base::{Kind, Place};
 
@@ -66,13 +66,13 @@ pub fn repeated(
 ) -> Result<Measured, ConstFault>
     ensures { (n : Meaning) (ms : List Meaning) → Matches count.now n → IsJoined joined ms → Agrees Matches result (spec.repeated place n ms) }
 {
-    let count = count.number();
-    if count < 1 {
+    let count = count.number().count();
+    if count == 0 {
         return Err(unnamed_at(alloc, Kind::BadRange, place));
     }
     match joined {
         Joined::Nothing => Err(unnamed_at(alloc, Kind::BadRange, place)),
-        Joined::Whole(bits) if count <= i128::from(MAX_WIDTH / bits.width) => {
+        Joined::Whole(bits) if count <= Word::from(MAX_WIDTH / bits.width) => {
             Ok(alone(copies(count as u32, bits), false))
         }
         _ => Err(unnamed_at(alloc, Kind::TooWide, place)),

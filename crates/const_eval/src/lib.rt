@@ -16,8 +16,9 @@ mod pending;
 mod power;
 mod refuse;
 mod select;
-mod sign;
+mod shape;
 mod taking;
+mod whole_number;
 
 pub use env::{Const, Env, EnvName};
 pub use evaluation::constant;

@@ -1,12 +1,14 @@
 //! What an expression is worth by itself, and what has a value by itself.
 
-ghost use Rattle.std.specs.Prelude.{◌≡◌, ◌≤◌, ◌^◌, pos, neg_ℤ, ◌≤ℤ◌, ◌<ℤ◌};
+ghost use Rattle.std.specs.Prelude.{◌≡◌};
 ghost use Rattle.const_eval.specs.Meaning as meaning;
 ghost use Rattle.const_eval.specs.Waiting.{value_of};
+ghost use Rattle.const_eval.specs.WholeNumbers.{integer_of};
 ghost use Rattle.const_eval.specs.Agreeing.{Matches, number_in};
 
 use crate::measured::Measured;
 use crate::pending::{Pending, evaluate};
+use crate::whole_number::WholeNumber;
 use bit_ops::Bits;
 
 impl Measured {
@@ -19,16 +21,14 @@ impl Measured {
     }
 
     /// The whole number that the value by itself stands for.
-    pub fn number(&self) -> i128
-        ensures number { result ≡ number_in self.now }
-        ensures least { neg_ℤ (pos (2 ^ 63)) ≤ℤ result }
-        ensures greatest { result <ℤ pos (2 ^ 64) }
+    pub fn number(&self) -> WholeNumber
+        ensures { integer_of result ≡ number_in self.now }
     {
         let own = self.own();
         if self.signed && own.is_negative() {
-            i128::from(own.word) - (1 << own.width)
+            WholeNumber::Negative(bit_ops::bit_not(own).word)
         } else {
-            i128::from(own.word)
+            WholeNumber::NotNegative(own.word)
         }
     }
 

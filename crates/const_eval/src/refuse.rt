@@ -1,13 +1,14 @@
 //! Refusals of expressions, and widths.
 
-ghost use Rattle.std.specs.Prelude.{◌≡◌, IfOk};
+ghost use Rattle.std.specs.Prelude.{◌≡◌, pos, IfOk};
 ghost use Rattle.sv_base.specs.declared.fault.Fault.TheVariants.{Refused};
+ghost use Rattle.bit_ops.specs.Width.{IsWidth};
 ghost use Rattle.const_eval.specs.Expressions as spec;
 ghost use Rattle.const_eval.specs.Agreeing.{Agrees};
 ghost use Rattle.sv_base.specs.declared.kind.Kind.TheVariants.{BadRange};
 
 use crate::fault::ConstFault;
-use bit_ops::MAX_WIDTH;
+use bit_ops::{MAX_WIDTH, Word};
 use std::alloc::{AllocError, Global};
 use sv_ast::Id;
 use sv_base::{Kind, Name, Place, Refusal};
@@ -45,13 +46,14 @@ pub fn second_select(alloc: Global, place: Place) -> Result<ConstFault, AllocErr
     }))
 }
 
-/// A whole number as the width of a part of a name, whose `[` stands at a place.
-pub fn part_width(alloc: Global, name: &Id, place: Place, width: i128) -> Result<u32, ConstFault>
-    ensures { Agrees (λ w n. w ≡ n) result (spec.as_width (spec.refused_at BadRange name.now) place width) }
+/// A count as the width of a part of a name, whose `[` stands at a place.
+pub fn part_width(alloc: Global, name: &Id, place: Place, width: Word) -> Result<u32, ConstFault>
+    ensures width { IfOk result IsWidth }
+    ensures told { Agrees (λ w n. w ≡ n) result (spec.as_width (spec.refused_at BadRange name.now) place (pos width)) }
 {
-    if width < 1 {
+    if width == 0 {
         Err(refused_at(alloc, Kind::BadRange, name)?)
-    } else if width > i128::from(MAX_WIDTH) {
+    } else if width > Word::from(MAX_WIDTH) {
         Err(unnamed_at(alloc, Kind::TooWide, place))
     } else {
         Ok(width as u32)

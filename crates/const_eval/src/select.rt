@@ -1,8 +1,9 @@
 //! Selects of a constant's bits (IEEE 1800-2017, 11.5.1).
 
-ghost use Rattle.std.specs.Prelude.{◌≡◌, ◌≤◌, true, ℤ, pos, neg_ℤ, ◌^◌, ◌-ℤ◌, ◌+ℤ◌, ◌≤ℤ◌, ◌<ℤ◌};
+ghost use Rattle.std.specs.Prelude.{◌≡◌, true, pos, ◌*◌, ◌/◌, ◌%◌, ◌^◌, ◌-ℤ◌};
 ghost use Rattle.bit_ops.specs.Width.{IsWidth};
 ghost use Rattle.const_eval.specs.Selects as selects;
+ghost use Rattle.const_eval.specs.WholeNumbers.{integer_of};
 ghost use Rattle.const_eval.specs.Constant.{constant_named};
 ghost use Rattle.const_eval.specs.Expressions as spec;
 ghost use Rattle.const_eval.specs.Agreeing.{Agrees, Matches, ArePositions, place_of};
@@ -13,35 +14,62 @@ use crate::name::Constant;
 use crate::own::alone;
 use crate::refuse::part_width;
 use crate::taking::Taking;
+use crate::whole_number::{WholeNumber, span};
 use bit_ops::{Bits, MAX_WIDTH, Word};
 use std::alloc::Global;
 use sv_ast::Id;
 
-/// The bits of a word from a place on, which may lie below its lowest; a bit that it doesn't have is 0.
-fn bits_from(place: i128, width: u32, word: Word) -> Bits
+/// The bits of a word from so many places above its lowest on; a bit that it doesn't have is 0.
+fn bits_above(word: Word, places: Word, width: u32) -> Bits
     requires { IsWidth width }
     ensures width { result.width ≡ width }
-    ensures word { result.word ≡ selects.bits_from place width word }
+    ensures word { result.word ≡ word / 2 ^ places % 2 ^ width }
 {
-    let limit = i128::from(MAX_WIDTH);
-    if place >= limit || place <= -limit {
-        Bits::zero(width)
-    } else if place < 0 {
-        Bits::truncated(width, word << (-place) as u32)
+    if places < Word::from(MAX_WIDTH) {
+        Bits::truncated(width, word >> places as u32)
     } else {
-        Bits::truncated(width, word >> place as u32)
+        Bits::zero(width)
     }
 }
 
-/// So many bits of a constant from a position of its range on.
-fn part(constant: Constant, position: i128, width: u32) -> Measured
-    requires width { IsWidth width }
-    requires least { neg_ℤ (pos (2 ^ 64)) ≤ℤ position }
-    requires greatest { position ≤ℤ pos (2 ^ 65) }
-    ensures { Matches result (selects.part (constant_named constant.value constant.low) position width) }
+/// The bits of a word from so many places below its lowest on; a bit that it doesn't have is 0.
+fn bits_below(word: Word, places: Word, width: u32) -> Bits
+    requires { IsWidth width }
+    ensures width { result.width ≡ width }
+    ensures word { result.word ≡ word * 2 ^ places % 2 ^ width }
 {
-    let place = position - i128::from(constant.low);
-    alone(bits_from(place, width, constant.value.value.word), false)
+    if places < Word::from(MAX_WIDTH) {
+        Bits::truncated(width, word << places as u32)
+    } else {
+        Bits::zero(width)
+    }
+}
+
+/// The bits of a word from so many places below a position on.
+fn bits_from(word: Word, position: WholeNumber, down: Word, width: u32) -> Bits
+    requires { IsWidth width }
+    ensures width { result.width ≡ width }
+    ensures word { result.word ≡ selects.bits_from (integer_of position -ℤ pos down) width word }
+{
+    match position {
+        WholeNumber::NotNegative(up) if up >= down => bits_above(word, up - down, width),
+        WholeNumber::NotNegative(up) => bits_below(word, down - up, width),
+        WholeNumber::Negative(n) => {
+            bits_below(word, n.saturating_add(down).saturating_add(1), width)
+        }
+    }
+}
+
+/// So many bits of a constant, from so far below a position of its range on.
+fn part(constant: Constant, position: WholeNumber, down: u32, width: u32) -> Measured
+    requires { IsWidth width }
+    ensures { Matches result (selects.part (constant_named constant.value constant.low) (integer_of position -ℤ pos down) width) }
+{
+    let below = Word::from(constant.low) + Word::from(down);
+    alone(
+        bits_from(constant.value.value.word, position, below, width),
+        false,
+    )
 }
 
 /// A whole constant.
@@ -61,18 +89,19 @@ pub fn take(
     ensures { (positions : spec.Positions) → ArePositions taking.now positions → Agrees Matches result (spec.take (place_of taking.now) positions (constant_named constant.value constant.low) name.now) }
 {
     match taking {
-        Taking::At(_, at) => Ok(part(constant, at.number(), 1)),
+        Taking::At(_, at) => Ok(part(constant, at.number(), 0, 1)),
         Taking::DownTo(place, high, low) => {
-            let width = part_width(alloc, name, *place, high.number() - low.number() + 1)?;
-            Ok(part(constant, low.number(), width))
+            let low = low.number();
+            let width = part_width(alloc, name, *place, span(high.number(), low))?;
+            Ok(part(constant, low, 0, width))
         }
         Taking::UpFrom(place, at, width) => {
-            let width = part_width(alloc, name, *place, width.number())?;
-            Ok(part(constant, at.number(), width))
+            let width = part_width(alloc, name, *place, width.number().count())?;
+            Ok(part(constant, at.number(), 0, width))
         }
         Taking::DownFrom(place, at, width) => {
-            let width = part_width(alloc, name, *place, width.number())?;
-            Ok(part(constant, at.number() - i128::from(width) + 1, width))
+            let width = part_width(alloc, name, *place, width.number().count())?;
+            Ok(part(constant, at.number(), width - 1, width))
         }
     }
 }

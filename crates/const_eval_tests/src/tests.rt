@@ -1,4 +1,4 @@
-use bit_ops::{Bits, Word};
+use bit_ops::{Bits, MAX_WIDTH, Word};
 use const_eval::{Const, ConstFault, Env, EnvName, constant};
 use expr_parser::{ParseFault, parse_expr};
 use std::alloc::{AllocError, Global};
@@ -228,9 +228,9 @@ const PARTS_AND_FUNCTIONS: [(&str, &str); 35] = [
     ("$clog2(v)", "NotConstant v"),
 ];
 
-/// A constant of a width of 1 to 64, which is told of the widths here.
+/// A constant of a width that a value may have, which is told of the widths here.
 fn value(rt: &impl Abort, width: u32, word: Word, signed: bool) -> Const {
-    assert!(rt; width >= 1 && width <= 64);
+    assert!(rt; width >= 1 && width <= MAX_WIDTH);
     Const {
         value: Bits::truncated(width, word),
         signed,

@@ -1,13 +1,12 @@
-use Rattle.std.proofs.Common.{◌≡◌, ◌∙◌, ap, ◌-ℤ◌, pos, arith, to_z, of_z}
-use Rattle.std.proofs.lemmas.Int.{ints}
+use Rattle.std.proofs.Common.{◌∙◌, ap}
 use Rattle.const_eval.specs.Selects as selects
+use Rattle.const_eval.specs.WholeNumbers.{integer_of}
+use Rattle.const_eval.proofs.Selecting.{both_down}
 use Rattle.const_eval.proofs.select.part.Goals as goal
-use mir.Syntax.{w128}
 
--- src/select.rt:37:1
+-- src/select.rt:60:1
 pub returns : goal.returns
 returns c =
-    let place : to_z w128 (of_z w128 (to_z w128 (of_z w128 c.args.position) -ℤ to_z w128 (of_z w128 c.from.result))) ≡ c.args.position -ℤ pos c.args.constant.low = omega (arith, ints) in
-    let word : c.bits_from.result.word ≡ selects.bits_from (c.args.position -ℤ pos c.args.constant.low) c.args.width c.args.constant.value.value.word =
-    c.bits_from.ensures.word ∙ ap (λ z. selects.bits_from z c.args.width c.args.constant.value.value.word) place in
+    let word = c.bits_from.ensures.word ∙ ap (λ z. selects.bits_from z c.args.width c.args.constant.value.value.word)
+    (both_down (integer_of c.args.position) c.from.result c.from-2.result c.args.constant.low c.args.down c.from.ensures c.from-2.ensures) in
     rw (c.bits_from.ensures.width, word) at c.alone.ensures

@@ -1,14 +1,14 @@
--- What the operators that the code knows mean.
+-- What the shapes of operators mean.
 use Rattle.std.specs.Prelude.{ℕ, Bool, true, false, not, ◌&&◌, ◌||◌}
 use Rattle.bit_ops.specs.Meaning.{eq_of, red_and_of, red_or_of, red_xor_of}
-use Rattle.const_eval.specs.declared.sign.Reduction.{Reduction}
-use Rattle.const_eval.specs.declared.sign.Reduction.TheVariants as reduction
-use Rattle.const_eval.specs.declared.sign.Comparison.{Comparison}
-use Rattle.const_eval.specs.declared.sign.Comparison.TheVariants.{Equal, Less, Greater}
-use Rattle.const_eval.specs.declared.sign.Unary.{Unary}
-use Rattle.const_eval.specs.declared.sign.Unary.TheVariants as unary
-use Rattle.const_eval.specs.declared.sign.Binary.{Binary}
-use Rattle.const_eval.specs.declared.sign.Binary.TheVariants as binary
+use Rattle.const_eval.specs.declared.shape.Reduction.{Reduction}
+use Rattle.const_eval.specs.declared.shape.Reduction.TheVariants as reduction
+use Rattle.const_eval.specs.declared.shape.Comparison.{Comparison}
+use Rattle.const_eval.specs.declared.shape.Comparison.TheVariants.{Equal, Less, Greater}
+use Rattle.const_eval.specs.declared.shape.UnaryShape.{UnaryShape}
+use Rattle.const_eval.specs.declared.shape.UnaryShape.TheVariants as unary
+use Rattle.const_eval.specs.declared.shape.BinaryShape.{BinaryShape}
+use Rattle.const_eval.specs.declared.shape.BinaryShape.TheVariants as binary
 use Rattle.const_eval.specs.Meaning.{Meaning, holds, flag, each_bit, reduced, combined, compared, moved}
 use Rattle.const_eval.specs.Operators.{opposite, less}
 use Rattle.const_eval.specs.Waiting.{changed_by, combined_by, moved_by}
@@ -28,13 +28,13 @@ abbrev pub turned : Bool → ℕ → ℕ
 turned true bit = opposite bit
 turned false bit = bit
 
-abbrev pub unary_meaning : Unary → Meaning → Meaning
+abbrev pub unary_meaning : UnaryShape → Meaning → Meaning
 unary_meaning unary.Same = λ a. a
 unary_meaning (unary.Change change) = each_bit (changed_by change)
 unary_meaning unary.LogicalNot = λ a. flag (not (holds a))
 unary_meaning (unary.Reduction reduction turn) = reduced (λ w a. turned turn (reduced_by reduction w a))
 
-abbrev pub binary_meaning : Binary → Meaning → Meaning → Meaning
+abbrev pub binary_meaning : BinaryShape → Meaning → Meaning → Meaning
 binary_meaning (binary.Operation operation) = combined (combined_by operation)
 binary_meaning (binary.Comparison comparison turn) = compared (λ n s a b. turned turn (compared_by comparison n s a b))
 binary_meaning binary.LogicalAnd = λ a b. flag (holds a && holds b)
