@@ -6,7 +6,7 @@ use Rattle.std.proofs.lemmas.Bool.{lt-ltb, le-ltb, cases_lt}
 use Rattle.bit_ops.specs.declared.value.TheConstants.{MAX_WIDTH}
 use Rattle.sv_base.specs.declared.refusal.Place.{Place}
 use Rattle.sv_base.specs.declared.refusal.Refusal.{Refusal}
-use Rattle.const_eval.specs.WholeNumbers.{count_of}
+use Rattle.const_eval.specs.code.WholeNumbers.{count_of}
 use Rattle.const_eval.specs.Expressions.{as_width}
 
 -- a count as a width
@@ -19,7 +19,8 @@ both_wide : (below : Refusal) (place : Place) (m n : ℕ) → MAX_WIDTH < m → 
 both_wide below place m n h k = rw (le-ltb m 1 (omega arith), le-ltb n 1 (omega arith), lt-ltb MAX_WIDTH m h, lt-ltb MAX_WIDTH n k) refl
 
 -- a count that a word can say, as a width
-pub width_capped : (below : Refusal) (place : Place) (z : ℤ) (n : ℕ) → n ≡ min (count_of z) (2 ^ MAX_WIDTH - 1) → as_width below place (pos n) ≡ as_width below place z
+pub width_capped : (below : Refusal) (place : Place) (z : ℤ) (n : ℕ) → n ≡ min (count_of z) (2 ^ MAX_WIDTH - 1)
+    → as_width below place (pos n) ≡ as_width below place z
 width_capped below place z n e =
     elim (cases_lt (2 ^ MAX_WIDTH - 1) (count_of z)) [
       | inl far ↦ both_wide below place n (count_of z) (omega arith) (omega arith)

@@ -7,7 +7,7 @@ use Rattle.sv_base.specs.declared.fault.Fault.TheVariants.{Refused, NoMemory}
 use Rattle.const_eval.specs.declared.measured.Measured.{Measured}
 use Rattle.const_eval.specs.Meaning.{Meaning}
 use Rattle.const_eval.specs.Expressions.{◌>>=◌, is_negative}
-use Rattle.const_eval.specs.Agreeing.{Agrees, Matches, number_in}
+use Rattle.const_eval.specs.code.Agreeing.{Agrees, Matches, number_in}
 use Rattle.const_eval.proofs.Matching.{number_matches}
 
 -- a number that is not negative

@@ -3,8 +3,8 @@ use Rattle.std.proofs.Common.{◌≡◌, pos, if◌then◌else◌, ap, ◌∙◌
 use Rattle.bit_ops.specs.Meaning.{signed_of}
 use Rattle.const_eval.specs.declared.measured.Measured.{Measured}
 use Rattle.const_eval.specs.Meaning.{Meaning, number, own}
-use Rattle.const_eval.specs.Waiting.{value_of}
-use Rattle.const_eval.specs.Agreeing.{Matches, number_in}
+use Rattle.const_eval.specs.code.Waiting.{value_of}
+use Rattle.const_eval.specs.code.Agreeing.{Matches, number_in}
 
 -- the value by itself
 pub own_matches : (m : Measured) (n : Meaning) → Matches m n → value_of m.pending m.size m.signed ≡ own n

@@ -16,7 +16,7 @@ use Rattle.const_eval.specs.Meaning.{Meaning, chosen}
 use Rattle.const_eval.specs.Selects.{Named}
 use Rattle.const_eval.specs.Expressions as spec
 use Rattle.const_eval.specs.Expressions.{Names, Judged, Select, expression_layer, select_layer, meaning_of, meanings_of, select_of}
-use Rattle.const_eval.specs.Agreeing.{Agrees, Matches, IsJoined, ArePositions}
+use Rattle.const_eval.specs.code.Agreeing.{Agrees, Matches, IsJoined, ArePositions}
 use Rattle.const_eval.proofs.Judging.{agrees_behind, refused_first}
 
 -- the meaning of an expression, where a constant is needed or not

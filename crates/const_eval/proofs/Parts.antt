@@ -10,7 +10,7 @@ use Rattle.const_eval.specs.declared.joined.Joined.TheVariants.{Nothing}
 use Rattle.const_eval.specs.declared.measured.Measured.{Measured}
 use Rattle.const_eval.specs.Meaning.{Meaning}
 use Rattle.const_eval.specs.Expressions.{Names, Judged, ◌>>=◌, meaning_of, meanings_of}
-use Rattle.const_eval.specs.Agreeing.{Agrees, Matches, IsJoined}
+use Rattle.const_eval.specs.code.Agreeing.{Agrees, Matches, IsJoined}
 use Rattle.const_eval.proofs.Judging.{refused_first}
 
 -- meanings in front of those of more parts

@@ -15,7 +15,7 @@ use Rattle.const_eval.specs.Meaning.{Meaning}
 use Rattle.const_eval.specs.Selects.{Named, part}
 use Rattle.const_eval.specs.Constant.{constant_named}
 use Rattle.const_eval.specs.Expressions.{Positions, At, DownTo, UpFrom, DownFrom, as_width, refused_at, taken, take, ◌>>=◌}
-use Rattle.const_eval.specs.Agreeing.{Agrees, Matches, ArePositions, place_of}
+use Rattle.const_eval.specs.code.Agreeing.{Agrees, Matches, ArePositions, place_of}
 
 -- no position further down
 pub no_further : (z : ℤ) → z -ℤ pos 0 ≡ z

@@ -1,10 +1,7 @@
 pub mod Literal
-pub mod WholeNumbers
 pub mod Meaning
 pub mod Operators
 pub mod Selects
 pub mod Expressions
 pub mod Constant
-pub mod Waiting
-pub mod Shapes
-pub mod Agreeing
+pub mod code

@@ -5,9 +5,9 @@ ghost use Rattle.const_eval.specs.Meaning as meaning;
 ghost use Rattle.const_eval.specs.Meaning.{Meaning};
 ghost use Rattle.const_eval.specs.Operators as operators;
 ghost use Rattle.const_eval.specs.Expressions as spec;
-ghost use Rattle.const_eval.specs.Waiting as waiting;
-ghost use Rattle.const_eval.specs.Shapes as shapes;
-ghost use Rattle.const_eval.specs.Agreeing.{Agrees, Matches};
+ghost use Rattle.const_eval.specs.code.Waiting as waiting;
+ghost use Rattle.const_eval.specs.code.Shapes as shapes;
+ghost use Rattle.const_eval.specs.code.Agreeing.{Agrees, Matches};
 
 use crate::fault::ConstFault;
 use crate::measured::Measured;
@@ -24,7 +24,8 @@ use sv_base::{Binary, Function, Kind, Unary};
 
 /// What is done to an operand in its context.
 fn changed(alloc: Global, change: Change, a: Measured) -> Result<Measured, AllocError>
-    ensures { (m : Meaning) → Matches a m → IfOk result (λ r. Matches r (meaning.each_bit (waiting.changed_by change) m)) }
+    ensures { (m : Meaning) → Matches a m
+        → IfOk result (λ r. Matches r (meaning.each_bit (waiting.changed_by change) m)) }
 {
     let Measured {
         size,
@@ -40,7 +41,8 @@ fn changed(alloc: Global, change: Change, a: Measured) -> Result<Measured, Alloc
 
 /// The bit of a reduction, turned or not.
 fn reduced(reduction: Reduction, turn: bool, a: &Measured) -> Measured
-    ensures { (m : Meaning) → Matches a.now m → Matches result (meaning.reduced (λ w x. shapes.turned turn (shapes.reduced_by reduction w x)) m) }
+    ensures { (m : Meaning) → Matches a.now m
+        → Matches result (meaning.reduced (λ w x. shapes.turned turn (shapes.reduced_by reduction w x)) m) }
 {
     let own = a.own();
     let bit = match reduction {
@@ -79,7 +81,8 @@ fn combined(
     a: Measured,
     b: Measured,
 ) -> Result<Measured, AllocError>
-    ensures { (m n : Meaning) → Matches a m → Matches b n → IfOk result (λ r. Matches r (meaning.combined (waiting.combined_by operation) m n)) }
+    ensures { (m n : Meaning) → Matches a m → Matches b n
+        → IfOk result (λ r. Matches r (meaning.combined (waiting.combined_by operation) m n)) }
 {
     Ok(Measured {
         size: a.size.max(b.size),
@@ -94,7 +97,9 @@ fn combined(
 
 /// The bit of a comparison, turned or not: each operand is the other's context.
 fn compared(comparison: Comparison, turn: bool, a: &Measured, b: &Measured) -> Measured
-    ensures { (m n : Meaning) → Matches a.now m → Matches b.now n → Matches result (meaning.compared (λ w s x y. shapes.turned turn (shapes.compared_by comparison w s x y)) m n) }
+    ensures { (m n : Meaning) → Matches a.now m → Matches b.now n
+        → Matches result
+        (meaning.compared (λ w s x y. shapes.turned turn (shapes.compared_by comparison w s x y)) m n) }
 {
     let size = a.size.max(b.size);
     let signed = a.signed && b.signed;
@@ -137,7 +142,8 @@ pub fn moved(
     a: Measured,
     b: &Measured,
 ) -> Result<Measured, AllocError>
-    ensures { (m n : Meaning) → Matches a m → Matches b.now n → IfOk result (λ r. Matches r (meaning.moved (waiting.moved_by movement) m n)) }
+    ensures { (m n : Meaning) → Matches a m → Matches b.now n
+        → IfOk result (λ r. Matches r (meaning.moved (waiting.moved_by movement) m n)) }
 {
     let amount = b.own().word;
     let Measured {
@@ -159,7 +165,8 @@ fn binary(
     a: Measured,
     b: Measured,
 ) -> Result<Measured, AllocError>
-    ensures { (m n : Meaning) → Matches a m → Matches b n → IfOk result (λ r. Matches r (shapes.binary_meaning shape m n)) }
+    ensures { (m n : Meaning) → Matches a m → Matches b n
+        → IfOk result (λ r. Matches r (shapes.binary_meaning shape m n)) }
 {
     match shape {
         BinaryShape::Operation(operation) => combined(alloc, operation, a, b),
@@ -172,7 +179,8 @@ fn binary(
 
 /// A choice between two values, both of which decide its size and sign.
 pub fn chosen(condition: &Measured, a: Measured, b: Measured) -> Measured
-    ensures { (c m n : Meaning) → Matches condition.now c → Matches a m → Matches b n → Matches result (meaning.chosen c m n) }
+    ensures { (c m n : Meaning) → Matches condition.now c → Matches a m → Matches b n
+        → Matches result (meaning.chosen c m n) }
 {
     let size = a.size.max(b.size);
     let signed = a.signed && b.signed;
@@ -200,7 +208,8 @@ pub fn unary_by(alloc: Global, sign: &Id, a: Measured) -> Result<Measured, Const
 
 /// A power, whose exponent is not negative.
 fn raised(alloc: Global, sign: &Id, a: Measured, b: &Measured) -> Result<Measured, ConstFault>
-    ensures { (m n : Meaning) → Matches a m → Matches b.now n → Agrees Matches result (spec.raised true sign.now m n) }
+    ensures { (m n : Meaning) → Matches a m → Matches b.now n
+        → Agrees Matches result (spec.raised true sign.now m n) }
 {
     if b.number().is_negative() {
         return Err(unnamed_at(alloc, Kind::BadRange, sign.place));
@@ -216,7 +225,8 @@ fn binary_judged(
     a: Measured,
     b: Measured,
 ) -> Result<Measured, ConstFault>
-    ensures { (m n : Meaning) → Matches a m → Matches b n → Agrees Matches result (spec.binary_judged operator true sign.now m n) }
+    ensures { (m n : Meaning) → Matches a m → Matches b n
+        → Agrees Matches result (spec.binary_judged operator true sign.now m n) }
 {
     match operator {
         Binary::Power => raised(alloc, sign, a, &b),
@@ -226,7 +236,8 @@ fn binary_judged(
 
 /// An operator between two operands, by its sign.
 pub fn binary_by(alloc: Global, sign: &Id, a: Measured, b: Measured) -> Result<Measured, ConstFault>
-    ensures { (m n : Meaning) → Matches a m → Matches b n → Agrees Matches result (spec.binary_on true sign.now m n) }
+    ensures { (m n : Meaning) → Matches a m → Matches b n
+        → Agrees Matches result (spec.binary_on true sign.now m n) }
 {
     match Binary::of(sign.name.bytes()) {
         Some(operator) => binary_judged(alloc, operator, sign, a, b),

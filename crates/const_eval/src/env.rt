@@ -3,7 +3,8 @@
 use bit_ops::Bits;
 use sv_base::{Name, Sequence};
 
-/// The value of a constant expression: its bits, and whether they stand for a signed number (IEEE 1800-2017, 6.20, 11.2.1).
+/// The value of a constant expression: its bits, and whether they stand for a signed number (IEEE 1800-2017,
+/// 6.20, 11.2.1).
 #[derive(Clone, Copy, Debug)]
 pub struct Const {
     pub value: Bits,

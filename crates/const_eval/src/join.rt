@@ -6,7 +6,7 @@ ghost use Rattle.const_eval.specs.Meaning as meaning;
 ghost use Rattle.const_eval.specs.Meaning.{Meaning, own};
 ghost use Rattle.const_eval.specs.Selects as selects;
 ghost use Rattle.const_eval.specs.Expressions as spec;
-ghost use Rattle.const_eval.specs.Agreeing.{Agrees, Matches, IsJoined};
+ghost use Rattle.const_eval.specs.code.Agreeing.{Agrees, Matches, IsJoined};
 
 use crate::fault::ConstFault;
 use crate::joined::Joined;
@@ -20,7 +20,9 @@ use sv_base::{Kind, Place};
 impl Joined {
     /// One part more, which stands below the others.
     pub fn with(self, part: Bits) -> Joined
-        ensures { (ms : List Meaning) (m : Meaning) → IsJoined self ms → part.width ≡ m.size → part.word ≡ own m → IsJoined result (ms ++ m ∷ []) }
+        ensures { (ms : List Meaning) (m : Meaning) → IsJoined self ms
+            → part.width ≡ m.size → part.word ≡ own m
+            → IsJoined result (ms ++ m ∷ []) }
     {
         match self {
             Joined::Nothing => Joined::Whole(part),
@@ -64,7 +66,8 @@ pub fn repeated(
     count: &Measured,
     joined: Joined,
 ) -> Result<Measured, ConstFault>
-    ensures { (n : Meaning) (ms : List Meaning) → Matches count.now n → IsJoined joined ms → Agrees Matches result (spec.repeated place n ms) }
+    ensures { (n : Meaning) (ms : List Meaning) → Matches count.now n → IsJoined joined ms
+        → Agrees Matches result (spec.repeated place n ms) }
 {
     let count = count.number().count();
     if count == 0 {

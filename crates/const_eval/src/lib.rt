@@ -1,4 +1,5 @@
-//! Values of constant expressions (IEEE 1800-2017, 11.2.1), and the definition of what every expression means.
+//! Values of constant expressions (IEEE 1800-2017, 11.2.1), and the definition of what every expression
+//! means.
 #![tactic(auto)]
 
 mod apply;

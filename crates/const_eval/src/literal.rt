@@ -3,7 +3,7 @@
 ghost use Rattle.std.specs.Prelude.{◌≡◌, ◌≤◌, ◌^◌, ◌==◌, MatchOption, option_map, position};
 ghost use Rattle.bit_ops.specs.declared.value.TheConstants.{MAX_WIDTH};
 ghost use Rattle.const_eval.specs.Literal as spec;
-ghost use Rattle.const_eval.specs.Agreeing.{literal_of};
+ghost use Rattle.const_eval.specs.code.Agreeing.{literal_of};
 
 use crate::env::Const;
 use bit_ops::{Bits, MAX_WIDTH, Word};
@@ -59,7 +59,8 @@ fn behind_quote(size: Word, text: &[u8]) -> Option<Const>
 
 /// The size before a `'`, where a word holds it.
 fn size(digits: &[u8]) -> Option<Word>
-    ensures { MatchOption result (2 ^ MAX_WIDTH ≤ spec.size_of digits.now) (λ v. v ≡ spec.size_of digits.now) }
+    ensures { MatchOption result (2 ^ MAX_WIDTH ≤ spec.size_of digits.now)
+        (λ v. v ≡ spec.size_of digits.now) }
 {
     if digits.is_empty() {
         Some(32)

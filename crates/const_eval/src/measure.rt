@@ -3,7 +3,7 @@
 ghost use Rattle.std.specs.Prelude.{◌≡◌, true, map, IfOk};
 ghost use Rattle.const_eval.specs.Constant.{constant_of, names_of, constant_named};
 ghost use Rattle.const_eval.specs.Expressions as spec;
-ghost use Rattle.const_eval.specs.Agreeing.{Agrees, Matches, IsJoined, ArePositions, place_of};
+ghost use Rattle.const_eval.specs.code.Agreeing.{Agrees, Matches, IsJoined, ArePositions, place_of};
 
 use crate::apply::{binary_by, chosen, function_by, unary_by};
 use crate::env::Env;
@@ -98,7 +98,9 @@ fn read(
     constant: Constant,
     selects: &[Sel],
 ) -> Result<Measured, ConstFault>
-    ensures { Agrees Matches result (spec.selected (map (spec.select_of (names_of env.now.names)) selects.now) true (constant_named constant.value constant.low) name.now) }
+    ensures { Agrees Matches result
+        (spec.selected (map (spec.select_of (names_of env.now.names)) selects.now) true
+        (constant_named constant.value constant.low) name.now) }
 {
     match selects {
         [] => Ok(whole(constant)),
@@ -120,7 +122,9 @@ fn select(
     constant: Constant,
     select: &Sel,
 ) -> Result<Measured, ConstFault>
-    ensures { Agrees Matches result (spec.selected_by (spec.select_of (names_of env.now.names) select.now) true (constant_named constant.value constant.low) name.now) }
+    ensures { Agrees Matches result
+        (spec.selected_by (spec.select_of (names_of env.now.names) select.now) true
+        (constant_named constant.value constant.low) name.now) }
 {
     let taking = positions(alloc, env, select)?;
     take(alloc, &taking, constant, name)
@@ -129,8 +133,10 @@ fn select(
 /// A select with its positions.
 #[cycle(measuring)]
 fn positions(alloc: Global, env: &Env, select: &Sel) -> Result<Taking, ConstFault>
-    ensures place { IfOk result (λ taking. place_of taking ≡ (spec.select_of (names_of env.now.names) select.now).place) }
-    ensures positions { Agrees ArePositions result ((spec.select_of (names_of env.now.names) select.now).positions true) }
+    ensures place { IfOk result
+        (λ taking. place_of taking ≡ (spec.select_of (names_of env.now.names) select.now).place) }
+    ensures positions { Agrees ArePositions result
+        ((spec.select_of (names_of env.now.names) select.now).positions true) }
 {
     match select {
         Sel::Bit(place, at) => {

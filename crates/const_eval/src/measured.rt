@@ -2,7 +2,7 @@
 
 ghost use Rattle.std.specs.Prelude.{◌≡◌, ◌≤◌};
 ghost use Rattle.bit_ops.specs.Width.{IsWidth};
-ghost use Rattle.const_eval.specs.Waiting.{least_size};
+ghost use Rattle.const_eval.specs.code.Waiting.{least_size};
 
 use crate::pending::Pending;
 

@@ -3,7 +3,7 @@
 ghost use Rattle.std.specs.Prelude.{◌≡◌, true, option_map};
 ghost use Rattle.const_eval.specs.Constant.{names_of, named_of};
 ghost use Rattle.const_eval.specs.Expressions.{named_by};
-ghost use Rattle.const_eval.specs.Agreeing.{Agrees, IsNamed};
+ghost use Rattle.const_eval.specs.code.Agreeing.{Agrees, IsNamed};
 
 use crate::env::{Const, Env, EnvName};
 use crate::fault::ConstFault;

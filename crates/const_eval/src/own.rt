@@ -2,9 +2,9 @@
 
 ghost use Rattle.std.specs.Prelude.{◌≡◌};
 ghost use Rattle.const_eval.specs.Meaning as meaning;
-ghost use Rattle.const_eval.specs.Waiting.{value_of};
-ghost use Rattle.const_eval.specs.WholeNumbers.{integer_of};
-ghost use Rattle.const_eval.specs.Agreeing.{Matches, number_in};
+ghost use Rattle.const_eval.specs.code.Waiting.{value_of};
+ghost use Rattle.const_eval.specs.code.WholeNumbers.{integer_of};
+ghost use Rattle.const_eval.specs.code.Agreeing.{Matches, number_in};
 
 use crate::measured::Measured;
 use crate::pending::{Pending, evaluate};

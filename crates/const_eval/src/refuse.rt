@@ -4,7 +4,7 @@ ghost use Rattle.std.specs.Prelude.{◌≡◌, pos, IfOk};
 ghost use Rattle.sv_base.specs.declared.fault.Fault.TheVariants.{Refused};
 ghost use Rattle.bit_ops.specs.Width.{IsWidth};
 ghost use Rattle.const_eval.specs.Expressions as spec;
-ghost use Rattle.const_eval.specs.Agreeing.{Agrees};
+ghost use Rattle.const_eval.specs.code.Agreeing.{Agrees};
 ghost use Rattle.sv_base.specs.declared.kind.Kind.TheVariants.{BadRange};
 
 use crate::fault::ConstFault;
@@ -49,7 +49,8 @@ pub fn second_select(alloc: Global, place: Place) -> Result<ConstFault, AllocErr
 /// A count as the width of a part of a name, whose `[` stands at a place.
 pub fn part_width(alloc: Global, name: &Id, place: Place, width: Word) -> Result<u32, ConstFault>
     ensures width { IfOk result IsWidth }
-    ensures told { Agrees (λ w n. w ≡ n) result (spec.as_width (spec.refused_at BadRange name.now) place (pos width)) }
+    ensures told { Agrees (λ w n. w ≡ n) result
+        (spec.as_width (spec.refused_at BadRange name.now) place (pos width)) }
 {
     if width == 0 {
         Err(refused_at(alloc, Kind::BadRange, name)?)

@@ -3,10 +3,10 @@
 ghost use Rattle.std.specs.Prelude.{◌≡◌, true, pos, ◌*◌, ◌/◌, ◌%◌, ◌^◌, ◌-ℤ◌};
 ghost use Rattle.bit_ops.specs.Width.{IsWidth};
 ghost use Rattle.const_eval.specs.Selects as selects;
-ghost use Rattle.const_eval.specs.WholeNumbers.{integer_of};
+ghost use Rattle.const_eval.specs.code.WholeNumbers.{integer_of};
 ghost use Rattle.const_eval.specs.Constant.{constant_named};
 ghost use Rattle.const_eval.specs.Expressions as spec;
-ghost use Rattle.const_eval.specs.Agreeing.{Agrees, Matches, ArePositions, place_of};
+ghost use Rattle.const_eval.specs.code.Agreeing.{Agrees, Matches, ArePositions, place_of};
 
 use crate::fault::ConstFault;
 use crate::measured::Measured;
@@ -63,7 +63,8 @@ fn bits_from(word: Word, position: WholeNumber, down: Word, width: u32) -> Bits
 /// So many bits of a constant, from so far below a position of its range on.
 fn part(constant: Constant, position: WholeNumber, down: u32, width: u32) -> Measured
     requires { IsWidth width }
-    ensures { Matches result (selects.part (constant_named constant.value constant.low) (integer_of position -ℤ pos down) width) }
+    ensures { Matches result
+        (selects.part (constant_named constant.value constant.low) (integer_of position -ℤ pos down) width) }
 {
     let below = Word::from(constant.low) + Word::from(down);
     alone(
@@ -86,7 +87,9 @@ pub fn take(
     constant: Constant,
     name: &Id,
 ) -> Result<Measured, ConstFault>
-    ensures { (positions : spec.Positions) → ArePositions taking.now positions → Agrees Matches result (spec.take (place_of taking.now) positions (constant_named constant.value constant.low) name.now) }
+    ensures { (positions : spec.Positions) → ArePositions taking.now positions
+        → Agrees Matches result
+        (spec.take (place_of taking.now) positions (constant_named constant.value constant.low) name.now) }
 {
     match taking {
         Taking::At(_, at) => Ok(part(constant, at.number(), 0, 1)),

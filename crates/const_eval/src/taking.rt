@@ -18,7 +18,7 @@ pub enum Taking {
 
 impl Taking {
     ghost use Rattle.std.specs.Prelude.{◌≡◌};
-    ghost use Rattle.const_eval.specs.Agreeing.{place_of};
+    ghost use Rattle.const_eval.specs.code.Agreeing.{place_of};
 
     /// Where its `[` stands.
     pub fn place(&self) -> Place

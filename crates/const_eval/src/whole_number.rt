@@ -2,7 +2,7 @@
 
 ghost use Rattle.std.specs.Prelude.{◌≡◌, ◌+◌, ◌-◌, ◌^◌, min, pos, ◌+ℤ◌, ◌-ℤ◌, int_lt};
 ghost use Rattle.bit_ops.specs.declared.value.TheConstants.{MAX_WIDTH};
-ghost use Rattle.const_eval.specs.WholeNumbers.{integer_of, count_of};
+ghost use Rattle.const_eval.specs.code.WholeNumbers.{integer_of, count_of};
 
 use bit_ops::Word;
 
@@ -36,8 +36,8 @@ impl WholeNumber {
     }
 }
 
-/// How many positions there are from one down to another, both among them: none where the first is the lower one, and no more than a
-/// word can say.
+/// How many positions there are from one down to another, both among them: none where the first is the lower
+/// one, and no more than a word can say.
 pub fn span(high: WholeNumber, low: WholeNumber) -> Word
     ensures { result ≡ min (count_of (integer_of high -ℤ integer_of low +ℤ pos 1)) (2 ^ MAX_WIDTH - 1) }
 {

@@ -1,5 +1,4 @@
 use Rattle.const_eval.proofs.apply.binary.Goals as goal
 
--- src/apply.rt:154:1
 pub returns-in-Comparison : goal.returns-in-Comparison
 returns-in-Comparison c = rw c.in-Comparison.is c.compared.ensures

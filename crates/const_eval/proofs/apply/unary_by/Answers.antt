@@ -2,7 +2,6 @@ use Rattle.std.proofs.Common.{◌≡◌, ◌∙◌, sym, ap, Some}
 use Rattle.sv_base.specs.Operators.{unary_of}
 use Rattle.const_eval.proofs.apply.unary_by.Goals as goal
 
--- src/apply.rt:192:1
 pub returns-in_ok-unary-in-Some : goal.returns-in_ok-unary-in-Some
 returns-in_ok-unary-in-Some c = λ m p.
     let known : unary_of c.args.sign.now.name ≡ Some c.in-Some.operator = sym (c.in-Some.ensures ∙ ap unary_of c.bytes.ensures) in

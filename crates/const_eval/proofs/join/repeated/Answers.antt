@@ -1,6 +1,6 @@
 use Rattle.std.proofs.Common.{◌≡◌, ◌*◌, ◌<◌, ◌≤◌, ◌∙◌, arith, refl, ap}
 use Rattle.bit_ops.specs.declared.value.TheConstants.{MAX_WIDTH}
-use Rattle.const_eval.specs.WholeNumbers.{count_of}
+use Rattle.const_eval.specs.code.WholeNumbers.{count_of}
 use Rattle.const_eval.specs.Meaning.{number}
 use Rattle.const_eval.specs.Selects.{total}
 use Rattle.const_eval.proofs.Counts.{many_wide, too_often}
@@ -9,10 +9,10 @@ use Rattle.const_eval.proofs.Matching.{number_matches}
 use Rattle.const_eval.proofs.join.repeated.Goals as goal
 use Rattle.const_eval.proofs.join.repeated.Goals.{in_default-via-in-Whole+else-count-from, in_default-via-in_default}
 
--- src/join.rt:61:1
 pub returns-in_default : goal.returns-in_default
 returns-in_default c = λ n ms matches is.
-    let same : c.count-count.result ≡ count_of (number n) = c.count-count.ensures ∙ ap count_of (c.number.ensures ∙ number_matches c.args.count.now n matches) in
+    let same : c.count-count.result ≡ count_of (number n) =
+    c.count-count.ensures ∙ ap count_of (c.number.ensures ∙ number_matches c.args.count.now n matches) in
     let least : 1 ≤ c.count-count.result = omega arith in
     let wide : MAX_WIDTH < c.count-count.result * total ms =
     elim c.in_default.branch [

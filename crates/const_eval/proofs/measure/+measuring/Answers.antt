@@ -3,7 +3,7 @@ use Rattle.std.proofs.lemmas.Result.{err_from_is_err_and}
 use Rattle.sv_base.specs.declared.fault.Fault.TheVariants.{Refused}
 use Rattle.const_eval.specs.Constant.{names_of, constant_named}
 use Rattle.const_eval.specs.Expressions.{meaning_of, meanings_of, select_of, second_select}
-use Rattle.const_eval.specs.Agreeing.{Agrees, Matches, IsJoined}
+use Rattle.const_eval.specs.code.Agreeing.{Agrees, Matches, IsJoined}
 use Rattle.const_eval.proofs.Matching.{own_matches}
 use Rattle.const_eval.proofs.Parts.{begins, next_part, goes_on, is_refused, all_joined}
 use Rattle.const_eval.proofs.Opened.{choice_agrees, choice_refused, repeat_agrees, two_selects, twice_refused, twice_told}

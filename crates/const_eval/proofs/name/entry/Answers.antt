@@ -6,7 +6,6 @@ use Rattle.const_eval.proofs.Naming.{either, after, names_past}
 use Rattle.const_eval.proofs.name.entry.Goals as goal
 use Rattle.const_eval.proofs.name.entry.Goals.{then-eq, else-eq}
 
--- src/name.rt:27:5
 pub loop-next-preserved : goal.loop-next-preserved
 loop-next-preserved c =
     let f = λ (n : Bor EnvName). named_of n.now.value n.now.low in

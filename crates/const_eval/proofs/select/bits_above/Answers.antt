@@ -3,6 +3,5 @@ use Rattle.bit_ops.specs.declared.value.TheConstants.{MAX_WIDTH}
 use Rattle.const_eval.proofs.Places.{far_right}
 use Rattle.const_eval.proofs.select.bits_above.Goals as goal
 
--- src/select.rt:23:1
 pub returns-else-places-from-clause-word : goal.returns-else-places-from-clause-word
 returns-else-places-from-clause-word c = c.zero.ensures.word ∙ far_right c.args.width c.args.word c.args.places MAX_WIDTH (omega arith) (omega arith)

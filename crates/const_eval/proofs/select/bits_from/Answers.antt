@@ -3,7 +3,6 @@ use Rattle.bit_ops.specs.declared.value.TheConstants.{MAX_WIDTH}
 use Rattle.const_eval.proofs.Places.{from_far_below}
 use Rattle.const_eval.proofs.select.bits_from.Goals as goal
 
--- src/select.rt:49:1
 pub returns-in-Negative-clause-word : goal.returns-in-Negative-clause-word
 returns-in-Negative-clause-word c =
     let far : c.saturating_add-in-Negative.result ≡ min (min (c.in-Negative.n + c.args.down) (2 ^ MAX_WIDTH - 1) + 1) (2 ^ MAX_WIDTH - 1) = omega arith in

@@ -1,10 +1,9 @@
 use Rattle.std.proofs.Common.{◌∙◌, ap}
 use Rattle.const_eval.specs.Selects as selects
-use Rattle.const_eval.specs.WholeNumbers.{integer_of}
+use Rattle.const_eval.specs.code.WholeNumbers.{integer_of}
 use Rattle.const_eval.proofs.Selecting.{both_down}
 use Rattle.const_eval.proofs.select.part.Goals as goal
 
--- src/select.rt:60:1
 pub returns : goal.returns
 returns c =
     let word = c.bits_from.ensures.word ∙ ap (λ z. selects.bits_from z c.args.width c.args.constant.value.value.word)

@@ -1,16 +1,15 @@
 use Rattle.std.proofs.Common.{◌≡◌, ◌∙◌, ◌-ℤ◌, ◌+ℤ◌, pos, Ok}
 use Rattle.std.proofs.lemmas.Result.{err_from_is_err_and}
 use Rattle.sv_base.specs.declared.kind.Kind.TheVariants.{BadRange}
-use Rattle.const_eval.specs.WholeNumbers.{integer_of}
+use Rattle.const_eval.specs.code.WholeNumbers.{integer_of}
 use Rattle.const_eval.specs.Meaning.{number}
 use Rattle.const_eval.specs.Constant.{constant_named}
-use Rattle.const_eval.specs.Expressions.{refused_at, as_width}
+use Rattle.const_eval.specs.Expressions.{refused_at}
 use Rattle.const_eval.proofs.Counts.{width_counted, width_capped}
 use Rattle.const_eval.proofs.Matching.{number_matches}
 use Rattle.const_eval.proofs.Selecting.{no_further, ends_there, taken_holds, taken_fails, of_at, of_down_to, of_up_from, of_down_from}
 use Rattle.const_eval.proofs.select.take.Goals as goal
 
--- src/select.rt:83:1
 pub returns-in-At : goal.returns-in-At
 returns-in-At c =
     of_at c.args.taking.now c.in-At.field-0 c.in-At.at c.in-At.is
@@ -18,7 +17,6 @@ returns-in-At c =
     let start : integer_of c.number.result ≡ number p = c.number.ensures ∙ number_matches c.in-At.at p h in
     rw (no_further (integer_of c.number.result), start) at c.part.ensures)
 
--- src/select.rt:95:25
 pub returns-in_err-width-in-DownTo : goal.returns-in_err-width-in-DownTo
 returns-in_err-width-in-DownTo c =
     of_down_to c.args.taking.now c.in-DownTo.place c.in-DownTo.high c.in-DownTo.low c.in-DownTo.is
@@ -30,7 +28,6 @@ returns-in_err-width-in-DownTo c =
     rw (p.1, p.2) (taken_fails c.in-DownTo.place (number high -ℤ number low +ℤ pos 1) (λ w. number low) c.args.constant.value c.args.constant.low c.args.name.now
     c.in_err-width-in-DownTo.field-0.0 (rw size at c.in_err-width-in-DownTo.ensures.told)))
 
--- src/select.rt:83:1
 pub returns-in_ok-width-in-DownTo : goal.returns-in_ok-width-in-DownTo
 returns-in_ok-width-in-DownTo c =
     of_down_to c.args.taking.now c.in-DownTo.place c.in-DownTo.high c.in-DownTo.low c.in-DownTo.is
@@ -42,7 +39,6 @@ returns-in_ok-width-in-DownTo c =
     c.in_ok-width-in-DownTo.width c.part-in-DownTo.result (rw size at c.in_ok-width-in-DownTo.ensures.told)
     (rw (no_further (integer_of c.number-low.result), least) at c.part-in-DownTo.ensures))
 
--- src/select.rt:83:1
 pub returns-in_ok-width-in-UpFrom : goal.returns-in_ok-width-in-UpFrom
 returns-in_ok-width-in-UpFrom c =
     of_up_from c.args.taking.now c.in-UpFrom.place c.in-UpFrom.at c.in-UpFrom.width c.in-UpFrom.is
@@ -54,7 +50,6 @@ returns-in_ok-width-in-UpFrom c =
     c.in_ok-width-in-UpFrom.width c.part-in-UpFrom.result (rw (c.count.ensures, wide, size) at c.in_ok-width-in-UpFrom.ensures.told)
     (rw (no_further (integer_of c.number-in-UpFrom-2.result), start) at c.part-in-UpFrom.ensures))
 
--- src/select.rt:83:1
 pub returns-in_ok-width-in-DownFrom : goal.returns-in_ok-width-in-DownFrom
 returns-in_ok-width-in-DownFrom c =
     of_down_from c.args.taking.now c.in-DownFrom.place c.in-DownFrom.at c.in-DownFrom.width c.in-DownFrom.is

@@ -1,5 +1,5 @@
 -- What the code finds, against what is defined.
-use Rattle.std.specs.Prelude.{◌≡◌, ℕ, ◌≤◌, ◌<◌, Bool, ⊤, List, [], ℤ, pos, if◌then◌else◌, Result, Ok, Err}
+use Rattle.std.specs.Prelude.{◌≡◌, ℕ, ◌≤◌, ◌<◌, Bool, List, [], ℤ, pos, if◌then◌else◌, Result, Ok, Err}
 use Rattle.bit_ops.specs.Meaning.{signed_of}
 use Rattle.bit_ops.specs.declared.value.TheConstants.{MAX_WIDTH}
 use Rattle.sv_base.specs.declared.refusal.Refusal.{Refusal}
@@ -16,7 +16,7 @@ use Rattle.const_eval.specs.declared.taking.Taking.TheVariants as taking
 use Rattle.const_eval.specs.Literal.{Literal}
 use Rattle.const_eval.specs.Expressions.{Positions, At, DownTo, UpFrom, DownFrom}
 use Rattle.const_eval.specs.Meaning.{Meaning}
-use Rattle.const_eval.specs.Waiting.{value_of}
+use Rattle.const_eval.specs.code.Waiting.{value_of}
 use Rattle.const_eval.specs.Selects.{Named, total, joined}
 use Rattle.const_eval.specs.Constant.{constant_named}
 

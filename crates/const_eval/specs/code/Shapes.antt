@@ -11,7 +11,7 @@ use Rattle.const_eval.specs.declared.shape.BinaryShape.{BinaryShape}
 use Rattle.const_eval.specs.declared.shape.BinaryShape.TheVariants as binary
 use Rattle.const_eval.specs.Meaning.{Meaning, holds, flag, each_bit, reduced, combined, compared, moved}
 use Rattle.const_eval.specs.Operators.{opposite, less}
-use Rattle.const_eval.specs.Waiting.{changed_by, combined_by, moved_by}
+use Rattle.const_eval.specs.code.Waiting.{changed_by, combined_by, moved_by}
 
 abbrev pub reduced_by : Reduction → ℕ → ℕ → ℕ
 reduced_by reduction.And w a = red_and_of w a

@@ -1,0 +1,4 @@
+pub mod WholeNumbers
+pub mod Waiting
+pub mod Shapes
+pub mod Agreeing
