@@ -2,7 +2,9 @@
 use Rattle.std.specs.Prelude.{ℕ, ◌+◌, ◌%◌, ◌^◌, Bool, true, false, ◌&&◌, ◌||◌, ◌==◌, nat_lt, nat_le, if◌then◌else◌, List, [], ◌∷◌, take, drop, position, Option, None, Some, codes}
 use Rattle.bit_ops.specs.declared.value.TheConstants.{MAX_WIDTH}
 use Rattle.sv_base.specs.Operators.{row_of}
-use Rattle.sv_lexer.specs.Bytes.{spelled}
+use Rattle.sv_lexer.specs.declared.form.Base.{Base}
+use Rattle.sv_lexer.specs.Bytes.{spelled, radix}
+use Rattle.sv_lexer.specs.Piece.{base_of}
 
 -- what a number means: how many bits it has, whether it is signed, and its bits as an unsigned number
 pub record Literal : Type 0 where
@@ -10,30 +12,25 @@ pub record Literal : Type 0 where
   pub signed : Bool
   pub word : ℕ
 
--- how many digits a base has, by its letter in either case (5.7.1)
-abbrev pub radix_of : ℕ → Option ℕ
-radix_of letter =
-    if letter == 98 || letter == 66 then Some 2 else (if letter == 111 || letter == 79 then Some 8
-    else (if letter == 100 || letter == 68 then Some 10 else (if letter == 104 || letter == 72 then Some 16 else None)))
-
 -- a width that a value may have
 abbrev pub is_width : ℕ → Bool
 is_width w = nat_le 1 w && nat_le w MAX_WIDTH
 
 -- digits of a radix cut to a size, where a value may have that size and a word of the greatest width holds their number
 abbrev pub cut_to : ℕ → Bool → ℕ → List ℕ → Option Literal
-cut_to size signed radix digits =
-    if is_width size && nat_lt (spelled radix digits) (2 ^ MAX_WIDTH)
-    then Some (record { size = size; signed = signed; word = spelled radix digits % 2 ^ size }) else None
+cut_to size signed r digits =
+    if is_width size && nat_lt (spelled r digits) (2 ^ MAX_WIDTH)
+    then Some (record { size = size; signed = signed; word = spelled r digits % 2 ^ size }) else None
 
-abbrev pub with_radix : ℕ → Bool → Option ℕ → List ℕ → Option Literal
-with_radix size signed None digits = None
-with_radix size signed (Some radix) digits = cut_to size signed radix digits
+-- so of a base, where there is one
+abbrev pub in_base : ℕ → Bool → Option Base → List ℕ → Option Literal
+in_base size signed None digits = None
+in_base size signed (Some base) digits = cut_to size signed (radix base) digits
 
 -- a number of a size, by its base letter and its digits
 abbrev pub with_base : ℕ → Bool → List ℕ → Option Literal
 with_base size signed [] = None
-with_base size signed (letter ∷ digits) = with_radix size signed (radix_of letter) digits
+with_base size signed (letter ∷ digits) = in_base size signed (base_of letter) digits
 
 -- `s` in either case, which stands before the base letter of a signed number
 abbrev pub is_sign_letter : ℕ → Bool

@@ -7,20 +7,7 @@ ghost use Rattle.const_eval.specs.code.Agreeing.{literal_of};
 
 use crate::env::Const;
 use bit_ops::{Bits, MAX_WIDTH, Word};
-use sv_lexer::value_of_digits;
-
-/// How many digits the base of a letter has.
-fn radix(letter: u8) -> Option<Word>
-    ensures radix { result ≡ spec.radix_of letter }
-{
-    match letter {
-        b'b' | b'B' => Some(2),
-        b'o' | b'O' => Some(8),
-        b'd' | b'D' => Some(10),
-        b'h' | b'H' => Some(16),
-        _ => None,
-    }
-}
+use sv_lexer::{Base, value_of_digits};
 
 /// The digits of a radix cut to a size, where a value may have it.
 fn cut(size: Word, signed: bool, radix: Word, digits: &[u8]) -> Option<Const>
@@ -42,7 +29,7 @@ fn with_base(size: Word, signed: bool, text: &[u8]) -> Option<Const>
 {
     match text {
         [] => None,
-        [letter, digits @ ..] => cut(size, signed, radix(*letter)?, digits),
+        [letter, digits @ ..] => cut(size, signed, Base::of(*letter)?.radix(), digits),
     }
 }
 
