@@ -8,5 +8,6 @@ pub mod Marking
 pub mod Doing
 pub mod Active
 pub mod One
+pub mod Existing
 pub mod Worked
 mod Shown

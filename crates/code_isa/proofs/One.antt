@@ -26,7 +26,7 @@ use Rattle.code_isa.proofs.Active.{found_at}
 -- ---- what an instruction's slot reads
 
 -- the rows before those of the instructions are as many as the slots before them
-kid_rows : (kids : List Kid) → length (flat_map kid_reads kids) ≡ length (flat_map (λ (kid : Kid). output_widths kid.face) kids)
+pub kid_rows : (kids : List Kid) → length (flat_map kid_reads kids) ≡ length (flat_map (λ (kid : Kid). output_widths kid.face) kids)
 kid_rows [] = refl
 kid_rows (kid ∷ kids) =
     length-append (kid_reads kid) (flat_map kid_reads kids)
@@ -37,7 +37,7 @@ kid_rows (kid ∷ kids) =
 before_rows : Machine → List (List ℕ)
 before_rows m = replicate (first_kid_output m) [] ++ flat_map kid_reads m.kids
 
-kid_total : (m : Machine) → first_instruction m ≡ first_kid_output m + length (flat_map (λ (kid : Kid). output_widths kid.face) m.kids)
+pub kid_total : (m : Machine) → first_instruction m ≡ first_kid_output m + length (flat_map (λ (kid : Kid). output_widths kid.face) m.kids)
 kid_total m =
     let before = input_widths m.face ++ map (λ (r : Reg). r.width) m.regs in
     length-append before (flat_map (λ (kid : Kid). output_widths kid.face) m.kids)
@@ -51,7 +51,7 @@ before_size m =
     ∙ ap (λ n. n + length (flat_map kid_reads m.kids)) (length-replicate {A = List ℕ} (first_kid_output m) [])
     ∙ ap (λ n. first_kid_output m + n) (kid_rows m.kids) ∙ sym (kid_total m)
 
-reads_operands : (m : Machine) (k b : ℕ) (i : Instr) → slice_get m.code k ≡ Some i → Contains (operand_slots i) b → Reads m (first_instruction m + k) b
+pub reads_operands : (m : Machine) (k b : ℕ) (i : Instr) → slice_get m.code k ≡ Some i → Contains (operand_slots i) b → Reads m (first_instruction m + k) b
 unfolding before_rows
 reads_operands m k b i at there =
     let row : slice_index_or (reads_of m) (first_instruction m + k) [] ≡ operand_slots i =
@@ -60,7 +60,7 @@ reads_operands m k b i at there =
     subst (λ xs. Contains xs b) (sym row) there
 
 -- what a child's output slot reads
-reads_kid : (m : Machine) (o b : ℕ) → o < length (flat_map kid_reads m.kids) → Contains (slice_index_or (flat_map kid_reads m.kids) o []) b → Reads m (first_kid_output m + o) b
+pub reads_kid : (m : Machine) (o b : ℕ) → o < length (flat_map kid_reads m.kids) → Contains (slice_index_or (flat_map kid_reads m.kids) o []) b → Reads m (first_kid_output m + o) b
 unfolding before_rows
 reads_kid m o b inside there =
     let none = replicate {A = List ℕ} (first_kid_output m) [] in
@@ -76,17 +76,17 @@ abbrev weight : Bool → ℕ
 weight b = cond b 1 0
 
 -- no path from a slot has more than n output slots of children
-Bounded : Machine → ℕ → ℕ → Type 0
+pub Bounded : Machine → ℕ → ℕ → Type 0
 Bounded m n s = (path : List ℕ) → IsPath m (s ∷ path) → count_by (is_kid_slot m) (s ∷ path) ≤ n
 
-bounded_on : (m : Machine) (n s b : ℕ) → Reads m s b → Bounded m n s → Bounded m n b
+pub bounded_on : (m : Machine) (n s b : ℕ) → Reads m s b → Bounded m n s → Bounded m n b
 unfolding Bounded
 bounded_on m n s b reads bounded path is =
     let all : count_by (is_kid_slot m) (s ∷ b ∷ path) ≤ n = bounded (b ∷ path) (reads, is) in
     let more = sum_by-cons (λ x. cond (is_kid_slot m x) 1 0) s (b ∷ path) in
     omega (arith, all, more)
 
-bounded_kid : (m : Machine) (n s b : ℕ) → is_kid_slot m s ≡ true → Reads m s b → Bounded m n s → Bounded m (n - 1) b
+pub bounded_kid : (m : Machine) (n s b : ℕ) → is_kid_slot m s ≡ true → Reads m s b → Bounded m n s → Bounded m (n - 1) b
 unfolding Bounded
 bounded_kid m n s b kid reads bounded path is =
     let all : count_by (is_kid_slot m) (s ∷ b ∷ path) ≤ n = bounded (b ∷ path) (reads, is) in
@@ -94,13 +94,18 @@ bounded_kid m n s b kid reads bounded path is =
     let one : weight (is_kid_slot m s) ≡ 1 = ap weight kid in
     omega (arith, all, more, one)
 
-bounded_some : (m : Machine) (n s : ℕ) → is_kid_slot m s ≡ true → Bounded m n s → 1 ≤ n
+pub bounded_some : (m : Machine) (n s : ℕ) → is_kid_slot m s ≡ true → Bounded m n s → 1 ≤ n
 unfolding Bounded
 bounded_some m n s kid bounded =
     let all : count_by (is_kid_slot m) (s ∷ []) ≤ n = bounded [] tt in
     let more = sum_by-cons (λ x. cond (is_kid_slot m x) 1 0) s [] in
     let one : weight (is_kid_slot m s) ≡ 1 = ap weight kid in
     omega (arith, all, more, one)
+
+-- every path of a machine has at most as many as its chain says
+pub bounded_all : (m : Machine) (s : ℕ) → IsChained m → Bounded m m.chain s
+unfolding Bounded
+bounded_all m s chained path is = chained (s ∷ path) is
 
 module _ (m : Machine) (u v : List ℕ) (sized_u : length u ≡ slot_count m) (sized_v : length v ≡ slot_count m) (order : IsSlotOrdered m) (run_u : IsRun m u) (run_v : IsRun m v) (registers : (s : ℕ) → first_register m ≤ s → s < first_kid_output m → slice_index u s ≡ slice_index v s) (kids : (s : ℕ) → first_kid_output m ≤ s → s < first_instruction m → ((b : ℕ) → Reads m s b → slice_index u b ≡ slice_index v b) → slice_index u s ≡ slice_index v s) where
   Same : ℕ → Type 0
@@ -176,7 +181,7 @@ module _ (n : ℕ) (u held registers given : List ℕ) (filled : take n u ≡ he
 word_read : (u slots : List ℕ) (k : ℕ) → k < length slots → slice_index (words_at u slots) k ≡ slice_index u (slice_index slots k)
 word_read u slots k inside = get_or-map (λ slot. slice_index u slot) slots k 0 0 inside
 
-words_size : (u slots : List ℕ) → length (words_at u slots) ≡ length slots
+pub words_size : (u slots : List ℕ) → length (words_at u slots) ≡ length slots
 words_size u slots = length-map slots (λ slot. slice_index u slot)
 
 contains_map : (f : ℕ → ℕ) (xs : List ℕ) (x : ℕ) → Contains xs x → Contains (map f xs) (f x)
@@ -252,7 +257,7 @@ and_agree kid kids u v xs ys more less held also size_x size_y held_is also_is f
     ]
 
 -- as many words as the outputs have rows
-out_size : (t : Tree) (s : State) (kid : Kid) → (top_of t).face ≡ kid.face → length (outs_of t s) ≡ length kid.summary.rows
+pub out_size : (t : Tree) (s : State) (kid : Kid) → (top_of t).face ≡ kid.face → length (outs_of t s) ≡ length kid.summary.rows
 out_size t s kid face =
     words_size (slots_of s) (top_of t).outs ∙ (top_of t).all_driven ∙ ap output_count face ∙ sym kid.summary_fits.rows
 

@@ -50,3 +50,15 @@ abbrev mutual
   HaveAllSame no_state (state_and z zs) = ⊥
   HaveAllSame (state_and s ss) no_state = ⊥
   HaveAllSame (state_and s ss) (state_and z zs) = HaveSameRegisters s z × HaveAllSame ss zs
+
+-- a state with as many registers in each machine as the tree's has
+abbrev mutual
+  pub HasRegisters : Tree → State → Type 0
+  HasRegisters (node m kids) (state held registers slots states) =
+      (length registers ≡ length m.regs) × AllHaveRegisters kids states
+
+  pub AllHaveRegisters : Forest → States → Type 0
+  AllHaveRegisters no_tree no_state = Unit {0}
+  AllHaveRegisters no_tree (state_and s states) = ⊥
+  AllHaveRegisters (tree_and t trees) no_state = ⊥
+  AllHaveRegisters (tree_and t trees) (state_and s states) = HasRegisters t s × AllHaveRegisters trees states

@@ -9,6 +9,7 @@ pub mod law;
 mod machine;
 mod marks;
 mod run;
+mod slots;
 mod uses;
 mod words;
 
@@ -18,6 +19,7 @@ pub use fault::CodeFault;
 pub use machine::{Instr, Kid, Machine, Reg};
 pub use marks::Marks;
 pub use run::run_slots;
+pub use slots::{first_instruction, input_count, operands, slot_count};
 pub use uses::{Uses, uses_of};
 
 #[cfg(test)]

@@ -1,68 +1,20 @@
 //! Which instructions read a slot.
 
-ghost use Rattle.std.specs.Prelude.{◌≡◌, ◌+◌, ◌^◌, ◌<◌, ◌≤◌, ◌↔◌, ℕ, [], ◌∷◌, length, take, replicate, All, Contains, IsTrue, IfOk, OnOk};
-ghost use Rattle.code_isa.specs.Faces.{input_count};
-ghost use Rattle.code_isa.specs.Slots.{first_instruction, operand_slots};
-ghost use Rattle.code_isa.specs.Operands.{operand_count};
+ghost use Rattle.std.specs.Prelude.{◌≡◌, ◌<◌, ◌≤◌, ◌↔◌, ℕ, [], ◌∷◌, length, replicate, All, Contains, IsTrue, IfOk, OnOk};
+ghost use Rattle.code_isa.specs.Slots.{operand_slots};
 ghost use Rattle.code_isa.specs.Uses.{row_of, Rises, AreUsesOf, AreUpTo, AddsReader};
 
 use crate::checked::Checked;
-use crate::machine::{Instr, Machine};
-use bit_ops::Op;
+use crate::machine::Instr;
+use crate::slots::{first_instruction, operands};
 use std::alloc::{AllocError, Global};
-use sv_base::{Class, Face, Sequence};
+use sv_base::Sequence;
 
 /// For each slot, the slots of the instructions that have it as an operand: a row a slot, in rising order, with each
 /// instruction once.
 #[derive(Debug, Drop)]
 pub struct Uses {
     pub rows: Sequence<Sequence<u64>>,
-}
-
-/// How many data inputs a face has.
-fn value_count(face: &Face) -> usize
-    ensures { result ≡ input_count face.now }
-{
-    let ports = face.ports.as_slice().iter();
-    ports.filter(|p| matches!(p.class, Class::Value)).count()
-}
-
-/// How many slots stand before those of the instructions.
-fn given_count(m: &Machine) -> usize
-    ensures count { result ≡ first_instruction m.now }
-    ensures few { result < 2 ^ 60 }
-{
-    let mut outputs = 0;
-    for kid in m.kids.as_slice() {
-        outputs += kid.summary.rows.len();
-    }
-    value_count(&m.face) + m.regs.as_slice().len() + outputs
-}
-
-/// How many slots an operation has as operands.
-fn operand_count(op: Op) -> usize
-    ensures { result ≡ operand_count op }
-{
-    match op {
-        Op::Const => 0,
-        Op::Zext | Op::Sext | Op::Slice | Op::Not | Op::Neg => 1,
-        Op::RedAnd | Op::RedOr | Op::RedXor => 1,
-        Op::Mux => 3,
-        _ => 2,
-    }
-}
-
-/// The slots of an instruction's operands, which are the first of the three, and how many there are.
-fn operands(i: &Instr) -> ([u64; 3], usize)
-    ensures count { result.1 ≤ 3 }
-    ensures slots { take result.1 result.0 ≡ operand_slots i.now }
-{
-    match operand_count(i.op) {
-        0 => ([0; 3], 0),
-        1 => ([i.a, 0, 0], 1),
-        2 => ([i.a, i.b, 0], 2),
-        _ => ([i.c, i.a, i.b], 3),
-    }
 }
 
 /// Whether a number that is not below those of a row stands in it.
@@ -121,7 +73,7 @@ pub fn uses_of(alloc: Global, m: &Checked) -> Result<Uses, AllocError>
     ensures { IfOk result (λ uses. AreUsesOf m.now uses.rows) }
 {
     let m = m.machine();
-    let first = given_count(m);
+    let first = first_instruction(m);
     let mut rows = empty_rows(alloc, first + m.code.as_slice().len())?;
     let mut reader = first as u64;
     for i in m.code.as_slice() {

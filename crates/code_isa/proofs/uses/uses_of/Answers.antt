@@ -8,17 +8,17 @@ use Rattle.code_isa.proofs.Readers.{uses_none, uses_below, uses_more, uses_all, 
 use Rattle.code_isa.proofs.uses.uses_of.Goals as goal
 
 pub overflow_add-first : goal.overflow_add-first
-overflow_add-first c = omega (arith, c.given_count-first.ensures.few, c.as_slice.type_inv)
+overflow_add-first c = omega (arith, c.first_instruction-first.ensures.few, c.as_slice.type_inv)
 
 pub loop-i-init : goal.loop-i-init
 loop-i-init c =
     let m = c.args.m.now in
     let code : length c.as_slice.result.now ≡ length m.code = ap length (c.as_slice.ensures ∙ ap (λ (x : Machine). x.code) c.machine-m.ensures.same) in
-    let first : c.given_count-first.result ≡ first_instruction m = c.given_count-first.ensures.count ∙ ap first_instruction c.machine-m.ensures.same in
-    let size : c.given_count-first.result + length c.as_slice.result.now ≡ slot_count m = omega (arith, code, first, slot_total m) in
+    let first : c.first_instruction-first.result ≡ first_instruction m = c.first_instruction-first.ensures.count ∙ ap first_instruction c.machine-m.ensures.same in
+    let size : c.first_instruction-first.result + length c.as_slice.result.now ≡ slot_count m = omega (arith, code, first, slot_total m) in
     record {
       place = omega (arith, first);
-      uses = subst (λ rows. AreUsesUpTo m rows 0) (sym c.in_ok-rows.ensures) (uses_none m (c.given_count-first.result + length c.as_slice.result.now) size);
+      uses = subst (λ rows. AreUsesUpTo m rows 0) (sym c.in_ok-rows.ensures) (uses_none m (c.first_instruction-first.result + length c.as_slice.result.now) size);
     }
 
 pub add_readers-requires-clause-inside : goal.add_readers-requires-clause-inside
