@@ -1,0 +1,4 @@
+pub mod Reads
+pub mod Sets
+pub mod Flow
+pub mod Verdict
