@@ -1,81 +1,16 @@
 //! Whether the widths of a machine fit: those of each operation, and of each slot that a register, a port or a child's
 //! port takes.
 
-ghost use Rattle.std.specs.Prelude.{◌≡◌, ◌<◌, ◌++◌, [], ◌∷◌, ◌↔◌, length, map, slice_index, All, IsTrue, IfOk, OnOk};
-ghost use Rattle.std.specs.List.{flat_map};
+ghost use Rattle.std.specs.Prelude.{◌≡◌, ◌<◌, [], ◌∷◌, ◌↔◌, length, map, slice_index, All, IsTrue, IfOk};
 ghost use Rattle.bit_ops.specs.Width.{WidthsFit};
-ghost use Rattle.code_isa.specs.Faces.{input_widths, output_widths};
-ghost use Rattle.code_isa.specs.Slots.{slot_widths, width_at, operand_slots};
+ghost use Rattle.code_isa.specs.Faces.{input_widths};
+ghost use Rattle.code_isa.specs.Slots.{operand_slots};
 ghost use Rattle.code_isa.specs.Values.{operand_widths};
 ghost use Rattle.code_isa.specs.Checks.{IsSlotOrdered, IsSlotWide};
 
 use bit_ops::Op;
-use code_isa::{Instr, Kid, Machine, Reg, operands};
+use code_isa::{Instr, Kid, Machine, Reg, input_widths, operands, output_widths, slot_widths};
 use std::alloc::{AllocError, Global};
-use sv_base::{Class, Face};
-
-/// The widths of a face's data inputs.
-fn input_widths(alloc: Global, face: &Face) -> Result<Vec<u32>, AllocError>
-    ensures { IfOk result (λ widths. widths.items ≡ input_widths face.now) }
-{
-    let ports = face.ports.as_slice().iter();
-    ports
-        .filter(|p| matches!(p.class, Class::Value))
-        .map(|p| p.width)
-        .collect(alloc)
-}
-
-/// The widths of a face's outputs.
-fn output_widths(alloc: Global, face: &Face) -> Result<Vec<u32>, AllocError>
-    ensures { IfOk result (λ widths. widths.items ≡ output_widths face.now) }
-{
-    let ports = face.ports.as_slice().iter();
-    ports
-        .filter(|p| matches!(p.class, Class::Output))
-        .map(|p| p.width)
-        .collect(alloc)
-}
-
-/// Adds the widths of registers.
-fn add_registers(widths: &mut Vec<u32>, regs: &[Reg]) -> Result<(), AllocError>
-    ensures { OnOk result (widths.new.items ≡ widths.old.items ++ map (λ r. r.width) regs.now) }
-{
-    for r in regs {
-        widths.push(r.width)?;
-    }
-    Ok(())
-}
-
-/// Adds the widths of the outputs of children.
-fn add_outputs(alloc: Global, widths: &mut Vec<u32>, kids: &[Kid]) -> Result<(), AllocError>
-    ensures { OnOk result (widths.new.items ≡ widths.old.items ++ flat_map (λ kid. output_widths kid.face) kids.now) }
-{
-    for kid in kids {
-        widths.extend_from_slice(output_widths(alloc, &kid.face)?.as_slice())?;
-    }
-    Ok(())
-}
-
-/// Adds the widths of instructions.
-fn add_code(widths: &mut Vec<u32>, code: &[Instr]) -> Result<(), AllocError>
-    ensures { OnOk result (widths.new.items ≡ widths.old.items ++ map (λ i. i.width) code.now) }
-{
-    for i in code {
-        widths.push(i.width)?;
-    }
-    Ok(())
-}
-
-/// The widths of all slots.
-fn slot_widths(alloc: Global, m: &Machine) -> Result<Vec<u32>, AllocError>
-    ensures { IfOk result (λ widths. widths.items ≡ slot_widths m.now) }
-{
-    let mut widths = input_widths(alloc, &m.face)?;
-    add_registers(&mut widths, m.regs.as_slice())?;
-    add_outputs(alloc, &mut widths, m.kids.as_slice())?;
-    add_code(&mut widths, m.code.as_slice())?;
-    Ok(widths)
-}
 
 /// Whether an operation with a result of width `w` takes one operand of width `n`.
 fn takes_one(op: Op, w: u32, lo: u32, n: u32) -> bool

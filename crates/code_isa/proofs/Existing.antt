@@ -1,5 +1,5 @@
 -- A settled state exists for all inputs and registers.
-use Rattle.std.proofs.Common.{◌≡◌, ℕ, zero, suc, ◌+◌, ◌-◌, ◌*◌, ◌<◌, ◌≤◌, inl, inr, Bool, true, List, [], ◌∷◌, ◌++◌, length, map, take, refl, sym, ◌∙◌, ap, subst, arith}
+use Rattle.std.proofs.Common.{◌≡◌, ℕ, zero, suc, ◌+◌, ◌-◌, ◌*◌, ◌<◌, ◌≤◌, inl, inr, true, List, [], ◌∷◌, ◌++◌, length, map, take, refl, sym, ◌∙◌, ap, subst, arith}
 use Rattle.std.specs.Prelude.{Contains, slice_index, slice_index_or, slice_get, Some, nat_le, nat_lt}
 use Rattle.std.specs.List.{flat_map}
 use Rattle.std.proofs.lemmas.Bool.{cases_lt, and_from, le-leb, lt-ltb}
@@ -11,7 +11,7 @@ use Rattle.code_isa.specs.declared.machine.Kid.{Kid}
 use Rattle.code_isa.specs.declared.machine.Instr.{Instr}
 use Rattle.code_isa.specs.declared.machine.Machine.{Machine}
 use Rattle.code_isa.specs.Faces.{ports_of, input_widths, output_widths, input_count}
-use Rattle.code_isa.specs.Slots.{slot_widths, slot_count, first_instruction, first_register, first_kid_output, operand_slots}
+use Rattle.code_isa.specs.Slots.{slot_widths, slot_count, first_instruction, first_kid_output, operand_slots}
 use Rattle.code_isa.specs.Values.{instr_value}
 use Rattle.code_isa.specs.Dependence.{kid_reads, Reads, is_kid_slot}
 use Rattle.code_isa.specs.Checks.{IsChained, IsSlotOrdered}

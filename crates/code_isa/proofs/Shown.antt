@@ -1,7 +1,6 @@
 -- Worked values of the definitions, each by computing.
-use Rattle.std.proofs.Common.{◌≡◌, ℕ, List, [], ◌∷◌, true, false, refl}
+use Rattle.std.proofs.Common.{◌≡◌, [], ◌∷◌, true, false, refl}
 use Rattle.bit_ops.specs.declared.operation.Op.TheVariants as op
-use Rattle.bit_ops.specs.Rows.{value_of}
 use Rattle.code_isa.specs.Operands.{operand_count, names_position}
 use Rattle.code_isa.specs.Marks.{members_of, bit_of}
 use Rattle.code_isa.specs.Activity.{count_below, differs}

@@ -19,7 +19,10 @@ pub use fault::CodeFault;
 pub use machine::{Instr, Kid, Machine, Reg};
 pub use marks::Marks;
 pub use run::run_slots;
-pub use slots::{first_instruction, input_count, operands, slot_count};
+pub use slots::{
+    first_instruction, input_count, input_widths, operands, output_widths, slot_count, slot_widths,
+    zero_slots,
+};
 pub use uses::{Uses, uses_of};
 
 #[cfg(test)]
