@@ -31,7 +31,7 @@ impl Model for Marks {
 
 impl Marks {
     /// The empty set of positions below `count`.
-    pub(crate) fn empty(alloc: Global, count: usize) -> Result<Marks, AllocError>
+    pub fn empty(alloc: Global, count: usize) -> Result<Marks, AllocError>
         requires { count < 2 ^ 60 }
         ensures size { IfOk result (λ marks. length marks ≡ count) }
         ensures none { IfOk result HasNone }
@@ -48,7 +48,7 @@ impl Marks {
     }
 
     /// Puts a position into the set. Takes no memory.
-    pub(crate) fn insert(&mut self, k: usize)
+    pub fn insert(&mut self, k: usize)
         requires { k < length self.old }
         ensures { self.new ≡ slice_set self.old k true }
     {
@@ -78,7 +78,7 @@ impl Marks {
     }
 
     /// Takes the least position out of the set, where there is one. Takes no memory.
-    pub(crate) fn take_least(&mut self) -> Option<usize>
+    pub fn take_least(&mut self) -> Option<usize>
         ensures none { MatchOption result (HasNone self.old) (IsLeast self.old) }
         ensures taken { MatchOption result (self.new ≡ self.old) (λ k. self.new ≡ slice_set self.old k false) }
     {
