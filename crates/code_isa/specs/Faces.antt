@@ -6,6 +6,7 @@ use Rattle.sv_base.specs.declared.face.Class.{Class}
 use Rattle.sv_base.specs.declared.face.Port.{Port}
 use Rattle.sv_base.specs.declared.face.Face.{Face}
 use Rattle.sv_base.specs.declared.face.Summary.{Summary}
+use Rattle.sv_base.specs.declared.name.TheConstants.{NAME_LIMIT}
 use Rattle.bit_ops.specs.Width.{IsWidth}
 
 -- the ports of a class, in the order of the face
@@ -33,10 +34,10 @@ clock_count face = length (ports_of is_clock face)
 abbrev pub output_count : Face → ℕ
 output_count face = length (ports_of is_output face)
 
--- a name by its form (IEEE 1800-2017, 5.6), of at most 255 bytes
+-- a name by its form (IEEE 1800-2017, 5.6), of at most `NAME_LIMIT` bytes
 pub record IsName (bytes : List ℕ) : Type 0 where
   pub form : IsTrue (is_name bytes)
-  pub short : length bytes ≤ 255
+  pub short : length bytes ≤ NAME_LIMIT
 
 -- a port whose name and width are in their ranges
 pub record IsPort (port : Port) : Type 0 where
