@@ -19,7 +19,7 @@ use Rattle.net_ir.specs.Stepping.{Samples, Follows}
 use Rattle.net_ir.specs.Trace.{Shows}
 use Rattle.net_ir.specs.Idle.{DifferInIdle, IsAlike, IgnoresIdle}
 use Rattle.net_ir.specs.Benched.{IsHeldOf, ShowsOutputs, SamplesWords, meaning_of}
-use Rattle.net_ir.proofs.Order.{same_or_not}
+use Rattle.net_ir.proofs.Marking.{same_or_other}
 use Rattle.net_ir.proofs.Ports.{port_is, ports_among, no_output_role, row_is}
 
 -- ---- levels
@@ -44,7 +44,7 @@ setting_levels : (may_set : Class → ℕ → Bool) (ports : List Port) (s : Set
     IsFitting may_set ports s → HaveLevels ports (slice_set levels s.port s.word)
 setting_levels may_set ports s levels have fitting = record {
   each = length-set levels s.port s.word ∙ have.each;
-  fits = λ x p at. by_case x p at (same_or_not s.port x);
+  fits = λ x p at. by_case x p at (same_or_other s.port x);
 } where
   by_case : (x : ℕ) (p : Port) → slice_get ports x ≡ Some p → (s.port ≡ x) ⊎ (s.port ≡ x → ⊥) → slice_index (slice_set levels s.port s.word) x < 2 ^ p.width
   by_case x p at (inl here) =

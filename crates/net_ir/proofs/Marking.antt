@@ -1,26 +1,23 @@
 -- Marks of variables, and the loops that set and read them.
 use Rattle.std.proofs.Common.{◌≡◌, ℕ, zero, suc, ◌<◌, ◌≤◌, ◌+◌, List, [], ◌∷◌, ◌++◌, length, drop, get_or, Bool, true, false, refl, sym, ◌∙◌, ap, subst, arith, add-one, drop-cons, inl, inr}
-use Rattle.std.specs.Prelude.{◌&&◌, ◌||◌, ◌==◌, slice_index_or, slice_set, replicate, ◌⊎◌}
-use Rattle.std.specs.List.{flat_map, list_all}
+use Rattle.std.specs.Prelude.{◌||◌, ◌==◌, slice_index_or, slice_set, replicate, ◌⊎◌}
+use Rattle.std.specs.List.{flat_map}
 use Rattle.std.proofs.lemmas.Bool.Decides.{nat_tests}
 use Rattle.std.proofs.lemmas.List.{get_or-set_same, get_or-set_other, drop_all, length-set, length-replicate}
-use Rattle.std.proofs.lemmas.List.Folds.{list_all-append, flat_map-map}
-use Rattle.std.proofs.lemmas.List.Concat.{flat_map-append}
+use Rattle.std.proofs.lemmas.List.Folds.{flat_map-map}
 use Rattle.bit_ops.specs.declared.operation.Op.{Op}
 use Rattle.net_ir.specs.declared.term.Term.{Term, Apply}
 use Rattle.net_ir.specs.declared.term.Term.TheVariants.{outs-Apply}
 use Rattle.net_ir.specs.declared.term.Term.TheFolds.{map-Term, fold_out-Term}
-use Rattle.net_ir.specs.declared.design.Target.{Target}
-use Rattle.net_ir.specs.declared.statement.Stmt.{Stmt, Block, Assign}
-use Rattle.net_ir.specs.declared.statement.Stmt.TheVariants.{outs-Block, outs-Assign}
+use Rattle.net_ir.specs.declared.statement.Stmt.{Stmt, Block}
+use Rattle.net_ir.specs.declared.statement.Stmt.TheVariants.{outs-Block}
 use Rattle.net_ir.specs.declared.statement.Stmt.TheFolds.{map-Stmt, fold_out-Stmt}
 use Rattle.net_ir.specs.Value.{reads_of, reads_of_layer}
-use Rattle.net_ir.specs.Statement.{targets_of, targets_of_layer, statement_reads, statement_reads_of_layer}
-use Rattle.net_ir.specs.Drive.{target_var, var_list}
+use Rattle.net_ir.specs.Statement.{statement_reads, statement_reads_of_layer}
 use Rattle.net_ir.specs.Face.{stands_in}
-use Rattle.net_ir.specs.code.Marks.{mark_all, AreMarksOf, named_by}
+use Rattle.net_ir.specs.Marks.{mark_all, AreMarksOf}
 
--- ---- what terms and statements read and write
+-- ---- what terms and statements read
 
 pub reads_apply : (op : Op) (width lo : ℕ) (args : List Term) → reads_of (Apply op width lo args) ≡ flat_map reads_of args
 reads_apply op width lo args =
@@ -34,27 +31,9 @@ block_reads parts =
     ∙ ap (λ x. statement_reads_of_layer (map-Stmt Stmt (List ℕ) statement_reads x)) (outs-Block parts)
     ∙ flat_map-map (λ (reads : List ℕ). reads) statement_reads parts
 
-pub block_targets : (parts : List Stmt) → targets_of (Block parts) ≡ flat_map targets_of parts
-block_targets parts =
-    fold_out-Stmt (List Target) targets_of_layer (Block parts)
-    ∙ ap (λ x. targets_of_layer (map-Stmt Stmt (List Target) targets_of x)) (outs-Block parts)
-    ∙ flat_map-map (λ (ts : List Target). ts) targets_of parts
-
-flat_twice : {X Y Z : Type 0} (g : Y → List Z) (f : X → List Y) (xs : List X) → flat_map g (flat_map f xs) ≡ flat_map (λ x. flat_map g (f x)) xs
-flat_twice g f [] = refl
-flat_twice g f (x ∷ xs) = flat_map-append g (f x) (flat_map f xs) ∙ ap (λ zs. flat_map g (f x) ++ zs) (flat_twice g f xs)
-
-pub block_named : (parts : List Stmt) → named_by (targets_of (Block parts)) ≡ flat_map (λ s. named_by (targets_of s)) parts
-block_named parts = ap named_by (block_targets parts) ∙ flat_twice (λ t. var_list (target_var t)) targets_of parts
-
-pub assign_targets : (blocking : Bool) (target : Target) (value : Term) → targets_of (Assign blocking target value) ≡ target ∷ []
-assign_targets blocking target value =
-    fold_out-Stmt (List Target) targets_of_layer (Assign blocking target value)
-    ∙ ap (λ x. targets_of_layer (map-Stmt Stmt (List Target) targets_of x)) (outs-Assign blocking target value)
-
 -- ---- loops over a list
 
-pub split_items : {X : Type 0} (xs : List X) (i : ℕ) (a : X) → i < length xs → a ≡ get_or xs i a → drop i xs ≡ a ∷ drop (i + 1) xs
+split_items : {X : Type 0} (xs : List X) (i : ℕ) (a : X) → i < length xs → a ≡ get_or xs i a → drop i xs ≡ a ∷ drop (i + 1) xs
 split_items xs i a within is = rw (add-one, drop-cons xs i a within) (ap (λ x. x ∷ drop (suc i) xs) (sym is))
 
 mark_append : (xs ys : List ℕ) (marks : List Bool) → mark_all (xs ++ ys) marks ≡ mark_all ys (mark_all xs marks)
@@ -74,53 +53,23 @@ pub mark_done : {X : Type 0} (f : X → List ℕ) (xs : List X) (i : ℕ) (marks
     marks ≡ all
 mark_done f xs i marks all past so_far = sym (ap (λ ys. mark_all (flat_map f ys) marks) (drop_all i xs past)) ∙ so_far
 
--- one item more passes
-pub all_more : {X Y : Type 0} (p : Y → Bool) (f : X → List Y) (xs : List X) (i : ℕ) (a : X) (all : Bool) → i < length xs → a ≡ get_or xs i a →
-    list_all p (f a) ≡ true → list_all p (flat_map f (drop i xs)) ≡ all → list_all p (flat_map f (drop (i + 1) xs)) ≡ all
-all_more p f xs i a all within is pass so_far =
-    sym (ap (λ t. t && list_all p (flat_map f (drop (i + 1) xs))) pass)
-    ∙ sym (list_all-append p (f a) (flat_map f (drop (i + 1) xs)))
-    ∙ sym (ap (λ ys. list_all p (flat_map f ys)) (split_items xs i a within is))
-    ∙ so_far
-
--- one fails
-pub all_fails : {X Y : Type 0} (p : Y → Bool) (f : X → List Y) (xs : List X) (i : ℕ) (a : X) (all : Bool) → i < length xs → a ≡ get_or xs i a →
-    list_all p (f a) ≡ false → list_all p (flat_map f (drop i xs)) ≡ all → false ≡ all
-all_fails p f xs i a all within is fail so_far =
-    sym (ap (λ t. t && list_all p (flat_map f (drop (i + 1) xs))) fail)
-    ∙ sym (list_all-append p (f a) (flat_map f (drop (i + 1) xs)))
-    ∙ sym (ap (λ ys. list_all p (flat_map f ys)) (split_items xs i a within is))
-    ∙ so_far
-
-pub all_done : {X Y : Type 0} (p : Y → Bool) (f : X → List Y) (xs : List X) (i : ℕ) (all : Bool) → length xs ≤ i → list_all p (flat_map f (drop i xs)) ≡ all →
-    true ≡ all
-all_done p f xs i all past so_far = sym (ap (λ ys. list_all p (flat_map f ys)) (drop_all i xs past)) ∙ so_far
-
--- the same of the items themselves
-pub each_fails : {X : Type 0} (p : X → Bool) (xs : List X) (i : ℕ) (a : X) (all : Bool) → i < length xs → a ≡ get_or xs i a → p a ≡ false →
-    list_all p (drop i xs) ≡ all → false ≡ all
-each_fails p xs i a all within is fail so_far =
-    sym (ap (λ t. t && list_all p (drop (i + 1) xs)) fail) ∙ sym (ap (list_all p) (split_items xs i a within is)) ∙ so_far
-
-pub each_done : {X : Type 0} (p : X → Bool) (xs : List X) (i : ℕ) (all : Bool) → length xs ≤ i → list_all p (drop i xs) ≡ all → true ≡ all
-each_done p xs i all past so_far = sym (ap (list_all p) (drop_all i xs past)) ∙ so_far
-
 -- ---- what marks tell
 
-pub length_marks : (xs : List ℕ) (marks : List Bool) → length (mark_all xs marks) ≡ length marks
+length_marks : (xs : List ℕ) (marks : List Bool) → length (mark_all xs marks) ≡ length marks
 length_marks [] marks = refl
 length_marks (x ∷ xs) marks = length_marks xs (slice_set marks x true) ∙ length-set marks x true
 
-pub same_test : (a b : ℕ) → a ≡ b → (a == b) ≡ true
+same_test : (a b : ℕ) → a ≡ b → (a == b) ≡ true
 same_test a b h = grind (arith, nat_tests)
 
-pub other_test : (a b : ℕ) → (a ≡ b → ⊥) → (a == b) ≡ false
+other_test : (a b : ℕ) → (a ≡ b → ⊥) → (a == b) ≡ false
 other_test a b h = grind (arith, nat_tests)
 
-pub same_from_test : (a b : ℕ) → (a == b) ≡ true → a ≡ b
+same_from_test : (a b : ℕ) → (a == b) ≡ true → a ≡ b
 same_from_test a b h = grind (arith, nat_tests)
 
-same_or_other : (a b : ℕ) → (a ≡ b) ⊎ (a ≡ b → ⊥)
+-- two numbers are one or are not
+pub same_or_other : (a b : ℕ) → (a ≡ b) ⊎ (a ≡ b → ⊥)
 same_or_other a b = decide (a == b) refl where
   decide : (t : Bool) → (a == b) ≡ t → (a ≡ b) ⊎ (a ≡ b → ⊥)
   decide true h = inl (same_from_test a b h)
@@ -131,7 +80,7 @@ or_true true = refl
 or_true false = refl
 
 -- a mark is set where its number is among those that are marked
-pub marked_at : (xs : List ℕ) (marks : List Bool) (x : ℕ) → x < length marks →
+marked_at : (xs : List ℕ) (marks : List Bool) (x : ℕ) → x < length marks →
     slice_index_or (mark_all xs marks) x false ≡ (slice_index_or marks x false || stands_in x xs)
 marked_at [] marks x within = or_none (slice_index_or marks x false) where
   or_none : (a : Bool) → a ≡ (a || false)

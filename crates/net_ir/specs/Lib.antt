@@ -10,5 +10,5 @@ pub mod Idle
 pub mod Trace
 pub mod Facts
 pub mod Benched
-pub mod Plain
+pub mod Marks
 pub mod code

@@ -1,3 +1,1 @@
-pub mod Pass
-pub mod Marks
-pub mod Turns
+pub mod Classing

@@ -2,39 +2,17 @@
 
 ghost use Rattle.std.specs.Prelude.{◌≡◌, ℕ, List};
 ghost use Rattle.std.specs.List.{AllByRecursion};
-ghost use Rattle.bit_ops.specs.Width.{IsWidth};
-ghost use Rattle.sv_base.specs.declared.face.Class.TheVariants.{Clock};
-ghost use Rattle.sv_base.specs.declared.face.Port.{Port};
 ghost use Rattle.sv_base.specs.Steps.{Step, StepFits};
 ghost use Rattle.sv_base.specs.Runs.{Runs};
 ghost use Rattle.sv_base.specs.Meaning.{State, Plays};
 ghost use Rattle.net_ir.specs.declared.design.Spec.{Spec};
 ghost use Rattle.net_ir.specs.Face.{ports_of};
 ghost use Rattle.net_ir.specs.Run.{start};
-ghost use Rattle.net_ir.specs.Plain.{IsPlain};
 ghost use Rattle.net_ir.specs.Stepping.{Samples, Follows};
 ghost use Rattle.net_ir.specs.Trace.{Shows, IsTrace};
 ghost use Rattle.net_ir.specs.Facts.{HasOneSolution};
 ghost use Rattle.net_ir.specs.Idle.{IgnoresIdle};
 ghost use Rattle.net_ir.specs.Benched.{meaning_of};
-
-/// A plain design has exactly one solution in each state whose levels fit.
-pub fn plain_solution()
-    ensures { (spec : Spec) → IsPlain spec → HasOneSolution spec }
-{
-    bit_ops::laws::value_fits();
-}
-
-/// In a plain design idle inputs change nothing that is seen.
-pub fn plain_idle()
-    ensures { (spec : Spec) → IsPlain spec → IgnoresIdle spec }
-{}
-
-/// The ports of a plain design have widths that values may have, and its clocks have one bit.
-pub fn plain_ports()
-    ensures widths { (spec : Spec) → IsPlain spec → AllByRecursion (λ (p : Port). IsWidth p.width) (ports_of spec) }
-    ensures clocks { (spec : Spec) → IsPlain spec → AllByRecursion (λ (p : Port). p.class ≡ Clock → p.width ≡ 1) (ports_of spec) }
-{}
 
 /// What registers sample is determined.
 pub fn one_sample()

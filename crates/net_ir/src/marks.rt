@@ -2,12 +2,13 @@
 
 ghost use Rattle.std.specs.Prelude.{◌≡◌, true, length, IfOk, slice_set};
 ghost use Rattle.net_ir.specs.Value.{reads_of};
-ghost use Rattle.net_ir.specs.Statement.{targets_of, statement_reads};
-ghost use Rattle.net_ir.specs.Drive.{target_var, var_list, driver_reads, driver_clocks};
+ghost use Rattle.net_ir.specs.Statement.{statement_reads};
+ghost use Rattle.net_ir.specs.Drive.{var_list, driver_reads, driver_clocks};
 ghost use Rattle.net_ir.specs.Face.{clocks_of, all_reads};
-ghost use Rattle.net_ir.specs.code.Marks.{mark_all, AreMarksOf, is_clear, named_by, clocked_by};
+ghost use Rattle.net_ir.specs.Marks.{mark_all, AreMarksOf, is_clear};
+ghost use Rattle.net_ir.specs.code.Classing.{clocked_by};
 
-use crate::design::{Driver, Spec, Target, Trigger};
+use crate::design::{Driver, Spec, Trigger};
 use crate::statement::Stmt;
 use crate::term::Term;
 use std::alloc::{AllocError, Global};
@@ -50,8 +51,8 @@ fn mark(marks: &mut Vec<bool>, var: usize)
     }
 }
 
-/// Marks the variable that a name means, where it means one.
-fn mark_named(var: Option<u32>, marks: &mut Vec<bool>)
+/// Marks the variable that a name means, where it means one and there is a mark for it.
+pub fn mark_named(var: Option<u32>, marks: &mut Vec<bool>)
     ensures { marks.new.items ≡ mark_all (var_list var) marks.old.items }
 {
     match var {
@@ -115,26 +116,5 @@ fn mark_triggers(triggers: &[Trigger], marks: &mut Vec<bool>)
 {
     for trigger in triggers {
         mark_named(trigger.var, marks);
-    }
-}
-
-/// Marks the variable that a target names.
-pub fn mark_target(target: &Target, marks: &mut Vec<bool>)
-    ensures { marks.new.items ≡ mark_all (var_list (target_var target.now)) marks.old.items }
-{
-    mark_named(target.var(), marks);
-}
-
-/// Marks the variables that the targets of a statement name.
-pub fn mark_targets(statement: &Stmt, marks: &mut Vec<bool>)
-    ensures { marks.new.items ≡ mark_all (named_by (targets_of statement.now)) marks.old.items }
-{
-    match statement {
-        Stmt::Block(parts) => {
-            for part in parts.as_slice() {
-                mark_targets(part, marks);
-            }
-        }
-        Stmt::Assign { target, .. } => mark_target(target, marks),
     }
 }

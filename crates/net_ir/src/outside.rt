@@ -2,7 +2,8 @@
 
 ghost use Rattle.std.specs.Prelude.{◌≡◌, IfOk, length};
 ghost use Rattle.net_ir.specs.Face.{clocks_of, all_reads, is_inner, ports_of, face_of};
-ghost use Rattle.net_ir.specs.code.Marks.{AreMarksOf, class_by};
+ghost use Rattle.net_ir.specs.Marks.{AreMarksOf};
+ghost use Rattle.net_ir.specs.code.Classing.{class_by};
 
 use crate::design::{Role, Spec, Var};
 use crate::marks::{clock_marks, is_clear, read_marks};
@@ -47,7 +48,7 @@ fn ports(
 }
 
 /// Whether only the module itself sees a variable.
-pub(crate) fn is_inner(var: &Var) -> bool
+pub fn is_inner(var: &Var) -> bool
     ensures { result ≡ is_inner var.now.role }
 {
     match var.role {

@@ -1,12 +1,10 @@
 -- The ports of a design among its variables.
-use Rattle.std.proofs.Common.{◌≡◌, ℕ, zero, suc, ◌<◌, ◌≤◌, ◌+◌, List, [], ◌∷◌, ◌++◌, length, map, take, drop, get_or, Bool, true, false, refl, sym, ◌∙◌, ap, subst, arith, Option, Some, None}
-use Rattle.std.specs.Prelude.{slice_get, slice_index, if◌then◌else◌, ◌==◌, ◌||◌, option_map}
-use Rattle.std.specs.List.{AllByRecursion, flat_map}
+use Rattle.std.proofs.Common.{◌≡◌, ℕ, zero, suc, ◌<◌, ◌≤◌, ◌+◌, List, [], ◌∷◌, ◌++◌, length, map, take, drop, get_or, Bool, true, false, refl, sym, ◌∙◌, ap, subst, arith, Some}
+use Rattle.std.specs.Prelude.{slice_get, slice_index, if◌then◌else◌, option_map}
+use Rattle.std.specs.List.{AllByRecursion}
 use Rattle.std.specs.Int.{bit_at}
 use Rattle.std.proofs.lemmas.List.{length-map}
-use Rattle.std.proofs.lemmas.List.Folds.{list_any-append}
 use Rattle.std.proofs.lemmas.Option.{slice_get-map, slice_get_read, get_or_from_slice_get, slice_get-get_or}
-use Rattle.std.proofs.lemmas.Bool.{eqb-true}
 use Rattle.std.proofs.lemmas.Grind.{get_or_default_zero}
 use Rattle.bit_ops.specs.declared.value.Bits.{Bits}
 use Rattle.bit_ops.specs.Lists.{words, widths}
@@ -16,15 +14,11 @@ use Rattle.sv_base.specs.declared.face.Port.{Port}
 use Rattle.net_ir.specs.declared.design.Role.{Role}
 use Rattle.net_ir.specs.declared.design.Role.TheVariants.{Input, Output, Inner}
 use Rattle.net_ir.specs.declared.design.Var.{Var}
-use Rattle.net_ir.specs.declared.design.Trigger.{Trigger}
-use Rattle.net_ir.specs.declared.design.Driver.{Driver}
-use Rattle.net_ir.specs.declared.design.Driver.TheVariants.{Assign, Clocked}
 use Rattle.net_ir.specs.declared.design.Spec.{Spec}
 use Rattle.net_ir.specs.Value.{widths_of}
-use Rattle.net_ir.specs.Drive.{var_list, driver_clocks}
 use Rattle.net_ir.specs.Face.{stands_in, clocks_of, all_reads, input_class, class_of, port_of, is_inner, ports_from, ports_of}
-use Rattle.net_ir.specs.Plain.{IsPlainTrigger, HasPlainClocks, IsPlain}
-use Rattle.net_ir.specs.code.Pass.{KeepsInitial, state_of}
+use Rattle.plain_run.specs.Plain.{IsPlain}
+use Rattle.plain_run.specs.code.Pass.{KeepsInitial, state_of}
 use Rattle.net_ir.specs.Stepping.{Samples}
 use Rattle.net_ir.specs.Solution.{Solves}
 use Rattle.net_ir.specs.Register.{registers_of, register_words}
@@ -33,19 +27,11 @@ use Rattle.sv_base.specs.Classes.{is_value, is_clock, is_output, words_of_class}
 use Rattle.sv_base.specs.Meaning.{held_in, widths_of_class}
 use Rattle.net_ir.specs.Run.{start}
 use Rattle.plain_run.specs.Settled.{held_of}
+use Rattle.plain_run.proofs.Ports.{ports_among}
+use Rattle.plain_run.proofs.PlainFaces.{some_clock}
 use Rattle.plain_run.proofs.Places.{all_at, all_from, map_agree, all_below, place_if, written_whole, at_places, class_words, class_count, class_taken, class_kept}
 
 -- ---- ports are first variables
-
-few_if : (b : Bool) (p : Port) (ports : List Port) (n : ℕ) → length ports ≤ n → length (if b then [] else p ∷ ports) ≤ n + 1
-few_if true p ports n few = omega arith
-few_if false p ports n few = omega arith
-
-pub ports_few : (spec : Spec) (n : ℕ) (vars : List Var) → length (ports_from spec n vars) ≤ length vars
-ports_few spec n [] = omega arith
-ports_few spec n (v ∷ vars) =
-    let few = few_if (is_inner v.role) (port_of spec n v) (ports_from spec (n + 1) vars) (length vars) (ports_few spec (n + 1) vars) in
-    omega (arith, few)
 
 widths_if : (b : Bool) (p : Port) (ports : List Port) (v : Var) (vars : List Var) (i : ℕ) → p.width ≡ v.width →
     ((k : ℕ) → k < length ports → slice_index (map (λ (q : Port). q.width) ports) k ≡ slice_index (widths_of vars) k) →
@@ -78,7 +64,7 @@ widths_at_places chosen spec =
 pub ports_long : (spec : Spec) (values : List Bits) → widths values ≡ widths_of spec.vars → length (ports_of spec) ≤ length values
 ports_long spec values same =
     let each : length values ≡ length spec.vars = sym (length-map values (λ b. b.width)) ∙ ap length same ∙ length-map spec.vars (λ v. v.width) in
-    let few = ports_few spec 0 spec.vars in omega (arith, each, few)
+    let few = ports_among spec in omega (arith, each, few)
 
 pub words_long : (spec : Spec) (values : List Bits) → widths values ≡ widths_of spec.vars → length (ports_of spec) ≤ length (words values)
 words_long spec values same = let long = ports_long spec values same in let each = length-map values (λ (b : Bits). b.word) in omega (arith, long, each)
@@ -98,36 +84,6 @@ clocks_counted spec = ap length (widths_at_places is_clock spec) ∙ length-map 
 
 abbrev HasOneBit : Spec → ℕ → Type 0
 HasOneBit spec x = slice_index (widths_of spec.vars) x ≡ 1
-
-either_true : (P : Type 0) (a b : Bool) → (a ≡ true → P) → (b ≡ true → P) → (a || b) ≡ true → P
-either_true P true b first second is = first refl
-either_true P false b first second is = second is
-
-of_trigger : (spec : Spec) (x : ℕ) (var : Option ℕ) → IsPlainTrigger spec var → stands_in x (var_list var) ≡ true → HasOneBit spec x
-of_trigger spec x None plain is = absurd plain
-of_trigger spec x (Some clock) plain is =
-    either_true (HasOneBit spec x) (clock == x) false
-    (λ same. subst (HasOneBit spec) (eqb-true clock x same) plain.one_bit) (λ none. absurd (cc)) is
-
-of_triggers : (spec : Spec) (x : ℕ) (triggers : List Trigger) → AllByRecursion (λ (t : Trigger). IsPlainTrigger spec t.var) triggers →
-    stands_in x (flat_map (λ (t : Trigger). var_list t.var) triggers) ≡ true → HasOneBit spec x
-of_triggers spec x [] plain is = absurd (cc)
-of_triggers spec x (t ∷ triggers) plain is =
-    either_true (HasOneBit spec x) (stands_in x (var_list t.var)) (stands_in x (flat_map (λ (u : Trigger). var_list u.var) triggers))
-    (λ first. of_trigger spec x t.var plain.0 first) (λ rest. of_triggers spec x triggers plain.1 rest)
-    (sym (list_any-append (λ y. y == x) (var_list t.var) (flat_map (λ (u : Trigger). var_list u.var) triggers)) ∙ is)
-
-of_driver : (spec : Spec) (x : ℕ) (d : Driver) → HasPlainClocks spec d → stands_in x (driver_clocks d) ≡ true → HasOneBit spec x
-of_driver spec x (Assign target value place) plain is = absurd (cc)
-of_driver spec x (Clocked triggers body place) plain is = of_triggers spec x triggers plain is
-
-of_drivers : (spec : Spec) (x : ℕ) (drivers : List Driver) → AllByRecursion (HasPlainClocks spec) drivers →
-    stands_in x (flat_map driver_clocks drivers) ≡ true → HasOneBit spec x
-of_drivers spec x [] plain is = absurd (cc)
-of_drivers spec x (d ∷ drivers) plain is =
-    either_true (HasOneBit spec x) (stands_in x (driver_clocks d)) (stands_in x (flat_map driver_clocks drivers))
-    (λ first. of_driver spec x d plain.0 first) (λ rest. of_drivers spec x drivers plain.1 rest)
-    (sym (list_any-append (λ y. y == x) (driver_clocks d) (flat_map driver_clocks drivers)) ∙ is)
 
 -- a clock stands in an event control
 clock_class : (stands read : Bool) → is_clock (input_class stands read) ≡ true → stands ≡ true
@@ -149,7 +105,7 @@ clocks_from : (spec : Spec) → IsPlain spec → (n : ℕ) (vars : List Var) →
 clocks_from spec plain n [] = tt
 clocks_from spec plain n (v ∷ vars) =
     ports_if (HasOneBit spec) (is_inner v.role) n (port_of spec n v) (ports_from spec (n + 1) vars)
-    (λ is. of_drivers spec n spec.drivers plain.clocks (clock_stands spec n v.role is)) (clocks_from spec plain (n + 1) vars)
+    (λ is. (some_clock spec n spec.drivers plain.clocks (clock_stands spec n v.role is)).one_bit) (clocks_from spec plain (n + 1) vars)
 
 pub clocks_one_bit : (spec : Spec) → IsPlain spec →
     AllByRecursion (λ place. slice_index (widths_of spec.vars) place ≡ 1) (places_from is_clock 0 (ports_of spec))
@@ -226,7 +182,7 @@ words_0 chosen (p ∷ ports) (v ∷ vars) long = ap (λ ws. if chosen p.class th
 pub held_at_start : (spec : Spec) (inputs registers : List Bits) → words inputs ≡ map (λ _. 0) spec.vars →
     words registers ≡ map (λ v. v.init.word) spec.vars → held_of spec inputs registers ≡ held_in (ports_of spec) (start spec)
 held_at_start spec inputs registers zeros initials =
-    let few = ports_few spec 0 spec.vars in
+    let few = ports_among spec in
     let values = ap (words_of_class is_value (ports_of spec)) zeros ∙ words_0 is_value (ports_of spec) spec.vars few in
     let levels = ap (words_of_class is_clock (ports_of spec)) zeros ∙ words_0 is_clock (ports_of spec) spec.vars few in
     let held = ap (register_words (registers_of spec)) initials in

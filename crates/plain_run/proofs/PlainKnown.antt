@@ -36,7 +36,7 @@ use Rattle.net_ir.specs.declared.design.Spec.{Spec}
 use Rattle.net_ir.specs.Value.{widths_of, size}
 use Rattle.net_ir.specs.Statement.{targets_of}
 use Rattle.net_ir.specs.Drive.{target_var}
-use Rattle.net_ir.specs.Plain.{IsLawfulLayer, IsLawful, IsWholeTo, IsWholeLayer, IsWhole, AreOrdered, IsPlainTrigger, HasPlainClocks, NamesNoNet, WritesNoNet, IsPlain}
+use Rattle.plain_run.specs.Plain.{IsLawfulLayer, IsLawful, IsWholeTo, IsWholeLayer, IsWhole, AreOrdered, IsPlainTrigger, HasPlainClocks, NamesNoNet, WritesNoNet, IsPlain}
 
 -- a proof comes back from the fact that there is one
 abbrev Known : Type 0 → Type 0

@@ -1,2 +1,5 @@
 pub mod Places
 pub mod Settled
+pub mod Plain
+pub mod PlainForm
+pub mod code

@@ -9,7 +9,7 @@ use Rattle.sv_base.specs.Classes.{is_output, words_of_class}
 use Rattle.sv_base.specs.Meaning.{State, Held, held_in}
 use Rattle.net_ir.specs.declared.design.Spec.{Spec}
 use Rattle.net_ir.specs.Face.{ports_of}
-use Rattle.net_ir.specs.code.Pass.{state_of}
+use Rattle.plain_run.specs.code.Pass.{state_of}
 use Rattle.net_ir.specs.Solution.{Solves}
 use Rattle.net_ir.specs.Benched.{ShowsOutputs}
 

@@ -7,17 +7,19 @@ ghost use Rattle.sv_base.specs.Classes.{is_value, is_clock, is_output, level_wor
 ghost use Rattle.sv_base.specs.Meaning.{held_in, widths_of_class};
 ghost use Rattle.net_ir.specs.Face.{ports_of, face_of};
 ghost use Rattle.net_ir.specs.Value.{widths_of};
-ghost use Rattle.net_ir.specs.Plain.{HaveInitialValues, IsPlain};
-ghost use Rattle.net_ir.specs.code.Pass.{KeepsInitial, state_of};
+ghost use Rattle.plain_run.specs.Plain.{HaveInitialValues, IsPlain};
+ghost use Rattle.plain_run.specs.code.Pass.{KeepsInitial, state_of};
 ghost use Rattle.net_ir.specs.Run.{start};
 ghost use Rattle.net_ir.specs.Solution.{Solves};
 ghost use Rattle.net_ir.specs.Benched.{meaning_of};
 ghost use Rattle.plain_run.specs.Places.{is_of, places_from, set_places};
 ghost use Rattle.plain_run.specs.Settled.{held_of, shows_outputs, Solves-prop};
 
+use crate::evaluator::solve;
+use crate::sampling::sample;
 use bit_ops::Bits;
 use model_stage::Bench;
-use net_ir::{Spec, Var, sample, solve};
+use net_ir::{Spec, Var};
 use std::alloc::{AllocError, Global};
 use sv_base::{Class, Face, Port};
 

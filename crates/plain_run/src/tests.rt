@@ -2,13 +2,13 @@
 
 ghost use Rattle.std.specs.Prelude.{◌≡◌, ◌≤◌, [], IfOk};
 ghost use Rattle.sv_base.specs.Meaning.{first_state, held_in};
-ghost use Rattle.net_ir.specs.Plain.{HaveInitialValues, IsPlain};
+ghost use Rattle.plain_run.specs.Plain.{HaveInitialValues, IsPlain};
 ghost use Rattle.net_ir.specs.Face.{face_of};
 
-use crate::PlainBench;
+use crate::{PlainBench, is_plain};
 use bit_ops::Bits;
 use model_stage::Bench;
-use net_ir::{Role, Spec, Var, face, is_plain};
+use net_ir::{Role, Spec, Var, face};
 use std::alloc::{AllocError, Global};
 use std::test::Fail;
 use sv_base::{Face, Name, Place, Sequence};

@@ -1,7 +1,7 @@
 use Rattle.std.proofs.Common.{◌≡◌, drop}
 use Rattle.std.specs.List.{flat_map}
 use Rattle.net_ir.specs.Statement.{statement_reads}
-use Rattle.net_ir.specs.code.Marks.{mark_all}
+use Rattle.net_ir.specs.Marks.{mark_all}
 use Rattle.net_ir.proofs.marks.+mark_statement.Given as goal
 
 abbrev pub decreases-mark_statement : goal.decreases-mark_statement

@@ -1,7 +1,7 @@
 use Rattle.std.proofs.Common.{sym, ap, ◌∙◌}
 use Rattle.std.specs.List.{flat_map}
 use Rattle.net_ir.specs.Value.{reads_of}
-use Rattle.net_ir.specs.code.Marks.{mark_all}
+use Rattle.net_ir.specs.Marks.{mark_all}
 use Rattle.net_ir.proofs.Marking.{reads_apply, mark_more}
 use Rattle.net_ir.proofs.marks.+mark_term.Goals as goal
 

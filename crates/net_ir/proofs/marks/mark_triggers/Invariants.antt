@@ -1,5 +1,6 @@
 use Rattle.std.proofs.Common.{◌≡◌, drop}
-use Rattle.net_ir.specs.code.Marks.{mark_all, clocked_by}
+use Rattle.net_ir.specs.Marks.{mark_all}
+use Rattle.net_ir.specs.code.Classing.{clocked_by}
 use Rattle.net_ir.proofs.marks.mark_triggers.Given as goal
 
 -- the rest of the marks gives all of them

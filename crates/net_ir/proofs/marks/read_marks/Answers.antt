@@ -3,7 +3,7 @@ use Rattle.std.specs.Prelude.{replicate}
 use Rattle.std.specs.List.{flat_map}
 use Rattle.std.proofs.lemmas.Grind.{common_steps}
 use Rattle.net_ir.specs.Drive.{driver_reads}
-use Rattle.net_ir.specs.code.Marks.{mark_all}
+use Rattle.net_ir.specs.Marks.{mark_all}
 use Rattle.net_ir.proofs.Marking.{mark_more, mark_done, marks_tell}
 use Rattle.net_ir.proofs.marks.read_marks.Goals as goal
 

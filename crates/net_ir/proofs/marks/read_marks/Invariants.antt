@@ -1,7 +1,7 @@
 use Rattle.std.proofs.Common.{◌≡◌, drop}
 use Rattle.std.specs.List.{flat_map}
 use Rattle.net_ir.specs.Drive.{driver_reads}
-use Rattle.net_ir.specs.code.Marks.{mark_all}
+use Rattle.net_ir.specs.Marks.{mark_all}
 use Rattle.net_ir.proofs.marks.read_marks.Given as goal
 
 -- the rest of the marks gives all of them

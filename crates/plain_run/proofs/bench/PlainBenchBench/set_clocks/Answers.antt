@@ -2,7 +2,7 @@ use Rattle.std.proofs.Common.{◌≡◌, length, sym, ◌∙◌, ap, subst, refl
 use Rattle.std.proofs.lemmas.List.{length-map}
 use Rattle.bit_ops.specs.Lists.{words, widths}
 use Rattle.net_ir.specs.Value.{widths_of}
-use Rattle.net_ir.specs.code.Pass.{KeepsInitial, state_of}
+use Rattle.plain_run.specs.code.Pass.{KeepsInitial, state_of}
 use Rattle.sv_base.specs.Classes.{is_value, is_clock, is_output, level_word}
 use Rattle.plain_run.specs.Places.{set_places}
 use Rattle.plain_run.proofs.Places.{level_words}

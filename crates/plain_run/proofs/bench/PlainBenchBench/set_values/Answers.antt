@@ -1,7 +1,7 @@
 use Rattle.std.proofs.Common.{◌≡◌, ◌∙◌, ap, sym, subst}
 use Rattle.bit_ops.specs.Lists.{words, widths}
 use Rattle.net_ir.specs.Value.{widths_of}
-use Rattle.net_ir.specs.code.Pass.{KeepsInitial}
+use Rattle.plain_run.specs.code.Pass.{KeepsInitial}
 use Rattle.sv_base.specs.Classes.{is_value, is_clock, is_output}
 use Rattle.plain_run.specs.Places.{set_places}
 use Rattle.plain_run.proofs.PlainKnown.{plain_known}

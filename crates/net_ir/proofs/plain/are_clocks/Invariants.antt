@@ -1,7 +1,0 @@
-use Rattle.std.proofs.Common.{◌≡◌, drop}
-use Rattle.net_ir.specs.code.Marks.{are_clocks}
-use Rattle.net_ir.proofs.plain.are_clocks.Given as goal
-
--- the rest of the event controls decides
-abbrev pub invariant-loop-trigger : goal.invariant-loop-trigger
-invariant-loop-trigger l = are_clocks l.vars l.read (drop l.trigger-index l.triggers) ≡ are_clocks l.vars l.read l.triggers

@@ -1,0 +1,4 @@
+pub mod Pass
+pub mod Marks
+pub mod Turns
+pub mod Forming

@@ -1,0 +1,47 @@
+-- What targets name, and whether event controls name clocks, by marks of variables.
+use Rattle.std.specs.Prelude.{ℕ, Bool, true, false, not, ◌==◌, ◌&&◌, List, [], ◌∷◌, Option, None, Some, slice_get, if◌then◌else◌}
+use Rattle.std.specs.List.{flat_map, list_all}
+use Rattle.net_ir.specs.declared.design.Role.{Role}
+use Rattle.net_ir.specs.declared.design.Role.TheVariants.{Input, Output, Inner}
+use Rattle.net_ir.specs.declared.design.Var.{Var}
+use Rattle.net_ir.specs.declared.design.Target.{Target}
+use Rattle.net_ir.specs.declared.design.Trigger.{Trigger}
+use Rattle.net_ir.specs.declared.design.Driver.{Driver}
+use Rattle.net_ir.specs.declared.design.Driver.TheVariants.{Assign, Clocked}
+use Rattle.net_ir.specs.Drive.{target_var, var_list}
+use Rattle.net_ir.specs.Face.{is_inner}
+use Rattle.net_ir.specs.Marks.{is_clear}
+
+-- the variables that targets name
+abbrev pub named_by : List Target → List ℕ
+named_by targets = flat_map (λ t. var_list (target_var t)) targets
+
+-- whether a variable of this role is set from outside
+abbrev pub is_input : Role → Bool
+is_input Input = true
+is_input Output = false
+is_input Inner = false
+
+-- whether a variable, if it is there, is an input of one bit without a mark
+abbrev pub is_clock_if : Option Var → Bool → Bool
+is_clock_if None clear = false
+is_clock_if (Some v) clear = is_input v.role && v.width == 1 && clear
+
+-- whether an event control names such a variable, where the marks are of what is read
+abbrev pub is_clock : List Var → List Bool → Option ℕ → Bool
+is_clock vars read None = false
+is_clock vars read (Some x) = is_clock_if (slice_get vars x) (is_clear read x)
+
+-- whether each of these event controls does
+abbrev pub are_clocks : List Var → List Bool → List Trigger → Bool
+are_clocks vars read triggers = list_all (λ (t : Trigger). is_clock vars read t.var) triggers
+
+-- whether each event control of a driver does; a continuous assignment has none
+abbrev pub has_clocks : List Var → List Bool → Driver → Bool
+has_clocks vars read (Assign target value place) = true
+has_clocks vars read (Clocked triggers body place) = are_clocks vars read triggers
+
+-- whether no port stands behind a variable that only the module sees, where one stands before these variables if `behind` says so
+abbrev pub ports_lead : Bool → List Var → Bool
+ports_lead behind [] = true
+ports_lead behind (v ∷ vars) = if is_inner v.role then ports_lead true vars else (not behind && ports_lead behind vars)

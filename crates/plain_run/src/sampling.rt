@@ -1,0 +1,119 @@
+//! Clock steps: what the registers of clocked processes take at an edge.
+
+ghost use Rattle.std.specs.Prelude.{◌≡◌, slice_index};
+ghost use Rattle.std.specs.List.{AllByRecursion, list_any};
+ghost use Rattle.bit_ops.specs.Lists.{words, widths};
+ghost use Rattle.net_ir.specs.declared.statement.Stmt.TheFolds.{every-Stmt};
+ghost use Rattle.net_ir.specs.Value.{widths_of};
+ghost use Rattle.net_ir.specs.Statement.{writes_of};
+ghost use Rattle.net_ir.specs.Register.{registers_of, register_words};
+ghost use Rattle.plain_run.specs.Plain.{IsWhole, IsWholeLayer, IsPlain};
+ghost use Rattle.plain_run.specs.code.Pass.{KeepsInitial, store_all};
+ghost use Rattle.net_ir.specs.Run.{is_edge, occurs, sampled};
+ghost use Rattle.net_ir.specs.Stepping.{Samples};
+
+use crate::evaluator::{evaluate, store};
+use bit_ops::Bits;
+use net_ir::{Driver, Spec, Stmt, Trigger};
+
+/// Gives the registers whose edge occurs, where the inputs change from `before` to `after`, what they sample in the
+/// solution `values` of the state before. A value for each variable stands in each list. Takes no memory.
+pub fn sample(spec: &Spec, values: &[Bits], before: &[Bits], after: &[Bits], registers: &mut [Bits])
+    requires plain { IsPlain spec.now }
+    requires values { widths values.now ≡ widths_of spec.now.vars }
+    requires before { widths before.now ≡ widths_of spec.now.vars }
+    requires after { widths after.now ≡ widths_of spec.now.vars }
+    requires registers { widths registers.old ≡ widths_of spec.now.vars }
+    ensures widths { widths registers.new ≡ widths_of spec.now.vars }
+    ensures samples { Samples spec.now (words values.now) (words before.now) (words after.now)
+        (register_words (registers_of spec.now) (words registers.old)) (register_words (registers_of spec.now) (words registers.new)) }
+    ensures initial { KeepsInitial spec.now (words registers.old) → KeepsInitial spec.now (words registers.new) }
+{
+    for driver in spec.drivers.as_slice() {
+        sample_driver(driver, values, before, after, registers);
+    }
+}
+
+/// Gives a driver's registers what they sample, where their edge occurs.
+fn sample_driver(
+    driver: &Driver,
+    values: &[Bits],
+    before: &[Bits],
+    after: &[Bits],
+    registers: &mut [Bits],
+)
+    requires whole { IsWhole (widths values.now) driver.now }
+    requires registers { widths registers.old ≡ widths values.now }
+    ensures widths { widths registers.new ≡ widths registers.old }
+    ensures words { words registers.new ≡ store_all (sampled (widths values.now) (words values.now) (words before.now) (words after.now) driver.now) (words registers.old) }
+{
+    match driver {
+        Driver::Assign { .. } => {}
+        Driver::Clocked { triggers, body, .. } => {
+            if any_occurs(triggers.as_slice(), before, after) {
+                execute(body, values, registers);
+            }
+        }
+    }
+}
+
+/// Whether the edge of some trigger occurs.
+fn any_occurs(triggers: &[Trigger], before: &[Bits], after: &[Bits]) -> bool
+    ensures { result ≡ list_any (occurs (words before.now) (words after.now)) triggers.now }
+{
+    triggers
+        .iter()
+        .any(|trigger| occurs(trigger, before, after))
+}
+
+/// Whether the edge of a trigger occurs.
+fn occurs(trigger: &Trigger, before: &[Bits], after: &[Bits]) -> bool
+    ensures { result ≡ occurs (words before.now) (words after.now) trigger.now }
+{
+    match trigger.var {
+        None => false,
+        Some(clock) => is_edge(
+            trigger.falling,
+            level(before, clock as usize),
+            level(after, clock as usize),
+        ),
+    }
+}
+
+/// The word of a value that is there, else 0.
+fn level(values: &[Bits], place: usize) -> u64
+    ensures { result ≡ slice_index (words values.now) place }
+{
+    match values.get(place) {
+        Some(value) => value.word,
+        None => 0,
+    }
+}
+
+/// Whether a change of level is an edge.
+fn is_edge(falling: bool, before: u64, after: u64) -> bool
+    ensures { result ≡ is_edge falling before after }
+{
+    if falling {
+        before == 1 && after == 0
+    } else {
+        before == 0 && after == 1
+    }
+}
+
+/// Executes a statement: reads in `values`, writes in `registers`.
+fn execute(body: &Stmt, values: &[Bits], registers: &mut [Bits])
+    requires whole { every-Stmt (IsWholeLayer (widths values.now)) body.now }
+    requires registers { widths registers.old ≡ widths values.now }
+    ensures widths { widths registers.new ≡ widths registers.old }
+    ensures words { words registers.new ≡ store_all (writes_of (widths values.now) (words values.now) body.now) (words registers.old) }
+{
+    match body {
+        Stmt::Block(parts) => {
+            for part in parts.as_slice() {
+                execute(part, values, registers);
+            }
+        }
+        Stmt::Assign { target, value, .. } => store(target, evaluate(value, values), registers),
+    }
+}
