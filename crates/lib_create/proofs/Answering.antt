@@ -12,10 +12,10 @@ use Rattle.net_ir.specs.Face.{ports_of}
 use Rattle.stimulus_reader.specs.Stimulus.{stimulus_of}
 use Rattle.lib_create.specs.declared.stop.Stop.{Stop}
 use Rattle.lib_create.specs.declared.stop.Stop.TheVariants.{ReadFault, WriteFault, NoMemory}
-use Rattle.lib_create.specs.declared.tree.Module.{Module}
+use Rattle.sealer.specs.Source.{HasDesign}
 use Rattle.lib_create.specs.Command.{Sim, Misuse, meaning_of}
-use Rattle.lib_create.specs.Design.{design_of}
-use Rattle.lib_create.specs.Outcome.{Verdict, Done, Misused, SourceAbsent, SourceRefused, StimulusAbsent, Bad, status_of, message_of, verdict_of_bad, step_limit, IsSource, EndsWithStimulus, EndsWithSource, EndsWithWords, Ends, Outcome, IsOutcome}
+use Rattle.session.specs.declared.playing.TheConstants.{STEP_LIMIT}
+use Rattle.lib_create.specs.Outcome.{Verdict, Done, Misused, SourceAbsent, SourceRefused, StimulusAbsent, Bad, status_of, message_of, verdict_of_bad, EndsWithStimulus, EndsWithSource, EndsWithWords, Ends, Outcome, IsOutcome}
 use Rattle.lib_create.specs.code.Running.{IsPlayCause}
 use Rattle.lib_create.specs.Answer.{read_fault, write_fault, no_memory, Answered, HasCome, CutShort, NothingDue, InTrace, OfOutcome, OfWrite, OfRead, OfMemory, CutMessage, IsGood}
 use Rattle.lib_create.specs.code.Telling.{ToldAs, stop_status, stop_text}
@@ -90,9 +90,9 @@ end_answered (Some files) words verdict answer failed ob oa eb ea gave (inr (inr
 
 come_of : (spec : Spec) (found : Option (List ℕ)) (verdict : Verdict) (trace : List ℕ) (before after : Option (List ℕ)) → EndsWithStimulus spec found verdict trace → Added before after trace → HasCome spec found before after
 come_of spec None verdict trace before after ends added =
-    record { made = []; later = stimulus_of (ports_of spec) step_limit []; first = refl; due = trace; trace = ends.1; added = added_front before after trace added }
+    record { made = []; later = stimulus_of (ports_of spec) STEP_LIMIT []; first = refl; due = trace; trace = ends.1; added = added_front before after trace added }
 come_of spec (Some bytes) verdict trace before after ends added =
-    let whole = stimulus_of (ports_of spec) step_limit bytes in
+    let whole = stimulus_of (ports_of spec) STEP_LIMIT bytes in
     record {
       made = whole.steps;
       later = record { steps = []; bad = whole.bad };
@@ -105,8 +105,8 @@ come_of spec (Some bytes) verdict trace before after ends added =
 cut_by_source : (files : Files) (words : List (List ℕ)) (sim : Sim) (held : Option (List ℕ)) (verdict : Verdict) (trace : List ℕ) (before after : Option (List ℕ)) → meaning_of words ≡ Ok sim → get files sim.file ≡ held →
     EndsWithSource files sim held verdict trace → Added before after trace → CutShort files words before after
 cut_by_source files words sim None verdict trace before after said there ends added = NothingDue (subst (λ xs. Added before after xs) ends.1 added)
-cut_by_source files words sim (Some bytes) verdict trace before after said there (inl (m, source, ends)) added =
-    InTrace sim said bytes there m source (come_of (design_of m) (get files sim.stimulus) verdict trace before after ends added)
+cut_by_source files words sim (Some bytes) verdict trace before after said there (inl (spec, source, ends)) added =
+    InTrace sim said bytes there spec source (come_of spec (get files sim.stimulus) verdict trace before after ends added)
 cut_by_source files words sim (Some bytes) verdict trace before after said there (inr (refusal, refused, is, empty)) added = NothingDue (subst (λ xs. Added before after xs) empty added)
 
 cut_by_words : (files : Files) (words : List (List ℕ)) (meaning : Result Sim Misuse) (verdict : Verdict) (trace : List ℕ) (before after : Option (List ℕ)) → meaning_of words ≡ meaning →
@@ -153,22 +153,22 @@ end_complete content words verdict answer failed ob oa eb ea gave told none =
     (end_answered content words verdict answer failed ob oa eb ea gave told)
 
 -- a good run ends with 0
-good_stimulus : (spec : Spec) (found : Option (List ℕ)) (bytes : List ℕ) (verdict : Verdict) (trace : List ℕ) → found ≡ Some bytes → (stimulus_of (ports_of spec) step_limit bytes).bad ≡ None → EndsWithStimulus spec found verdict trace → status_of verdict ≡ 0
+good_stimulus : (spec : Spec) (found : Option (List ℕ)) (bytes : List ℕ) (verdict : Verdict) (trace : List ℕ) → found ≡ Some bytes → (stimulus_of (ports_of spec) STEP_LIMIT bytes).bad ≡ None → EndsWithStimulus spec found verdict trace → status_of verdict ≡ 0
 good_stimulus spec found bytes verdict trace there good ends =
     let here = subst (λ f. EndsWithStimulus spec f verdict trace) there ends in
     ap status_of (here.0 ∙ ap verdict_of_bad good)
 
-good_source : OneSource → (files : Files) (sim : Sim) (bytes : List ℕ) (m : Module) (verdict : Verdict) (trace : List ℕ) (stimulus : List ℕ) → IsSource sim.top bytes m → get files sim.stimulus ≡ Some stimulus →
-    (stimulus_of (ports_of (design_of m)) step_limit stimulus).bad ≡ None → EndsWithSource files sim (Some bytes) verdict trace → status_of verdict ≡ 0
-good_source one files sim bytes m verdict trace stimulus source there good (inl (other, found, ends)) =
-    let same : other ≡ m = one.trees sim.top bytes other m found source in
-    good_stimulus (design_of m) (get files sim.stimulus) stimulus verdict trace there good (subst (λ n. EndsWithStimulus (design_of n) (get files sim.stimulus) verdict trace) same ends)
-good_source one files sim bytes m verdict trace stimulus source there good (inr (refusal, refused, told, empty)) = absurd (one.apart sim.top bytes m refusal source refused)
+good_source : OneSource → (files : Files) (sim : Sim) (bytes : List ℕ) (spec : Spec) (verdict : Verdict) (trace : List ℕ) (stimulus : List ℕ) → HasDesign sim.top bytes spec → get files sim.stimulus ≡ Some stimulus →
+    (stimulus_of (ports_of spec) STEP_LIMIT stimulus).bad ≡ None → EndsWithSource files sim (Some bytes) verdict trace → status_of verdict ≡ 0
+good_source one files sim bytes spec verdict trace stimulus source there good (inl (other, found, ends)) =
+    let same : other ≡ spec = one.designs sim.top bytes other spec found source in
+    good_stimulus spec (get files sim.stimulus) stimulus verdict trace there good (subst (λ s. EndsWithStimulus s (get files sim.stimulus) verdict trace) same ends)
+good_source one files sim bytes spec verdict trace stimulus source there good (inr (refusal, refused, told, empty)) = absurd (one.apart sim.top bytes spec refusal source refused)
 
 good_ends : OneSource → (files : Files) (words : List (List ℕ)) (verdict : Verdict) (trace : List ℕ) → IsGood files words → Ends files words verdict trace → status_of verdict ≡ 0
 good_ends one files words verdict trace good ends =
     let by_words : EndsWithSource files good.sim (get files good.sim.file) verdict trace = subst (λ meaning. EndsWithWords files meaning verdict trace) good.said ends in
-    good_source one files good.sim good.bytes good.module_of verdict trace good.stimulus good.source good.stimulus_there good.good
+    good_source one files good.sim good.bytes good.spec verdict trace good.stimulus good.source good.stimulus_there good.good
     (subst (λ held. EndsWithSource files good.sim held verdict trace) good.there by_words)
 
 pub succeeded : OneSource → (content : Option Files) (words : List (List ℕ)) (answer : ℕ) (out_before out_after err_before err_after : Option (List ℕ)) →

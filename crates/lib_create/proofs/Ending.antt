@@ -4,39 +4,40 @@ use Rattle.std.specs.Prelude.{Result, Ok, Err}
 use Rattle.std.specs.FinMap.{get}
 use Rattle.io_edge.specs.File.{Files}
 use Rattle.net_ir.specs.declared.design.Spec.{Spec}
-use Rattle.net_ir.specs.Plain.{IsPlain}
 use Rattle.sv_base.specs.Steps.{Step}
 use Rattle.sv_base.specs.declared.refusal.Refusal.{Refusal}
 use Rattle.net_ir.specs.Face.{ports_of}
+use Rattle.net_ir.specs.Facts.{HasOneSolution}
 use Rattle.net_ir.specs.Trace.{IsTrace}
-use Rattle.lib_create.specs.declared.tree.Module.{Module}
+use Rattle.sealer.specs.Source.{HasDesign, IsRefused}
 use Rattle.lib_create.specs.Command.{Sim, Misuse, meaning_of}
-use Rattle.lib_create.specs.Design.{design_of}
 use Rattle.stimulus_reader.specs.Stimulus.{stimulus_of}
-use Rattle.lib_create.specs.Outcome.{Verdict, SourceRefused, IsSource, IsRefused, step_limit, status_of, message_of, EndsWithStimulus, EndsWithSource, EndsWithWords, Ends, Outcome, IsOutcome}
+use Rattle.session.specs.declared.playing.TheConstants.{STEP_LIMIT}
+use Rattle.lib_create.specs.Outcome.{Verdict, SourceRefused, status_of, message_of, EndsWithStimulus, EndsWithSource, EndsWithWords, Ends, Outcome, IsOutcome}
 
 abbrev pub OneTrace : Type 0
-OneTrace = (spec : Spec) (steps : List Step) (a b : List ℕ) → IsPlain spec → IsTrace spec steps a → IsTrace spec steps b → a ≡ b
+OneTrace = (spec : Spec) (steps : List Step) (a b : List ℕ) → HasOneSolution spec → IsTrace spec steps a → IsTrace spec steps b → a ≡ b
 
 abbrev pub OneEnd : Type 0
 OneEnd = (files : Files) (words : List (List ℕ)) (first second : Verdict) (trace other : List ℕ) → Ends files words first trace → Ends files words second other → (first ≡ second) × (trace ≡ other)
 
--- the tree or the refusal of a source
+-- the design or the refusal of a source
 pub record OneSource : Type 0 where
-  pub trees : (top bytes : List ℕ) (first second : Module) → IsSource top bytes first → IsSource top bytes second → first ≡ second
+  pub designs : (top bytes : List ℕ) (first second : Spec) → HasDesign top bytes first → HasDesign top bytes second → first ≡ second
+  pub solution : (top bytes : List ℕ) (spec : Spec) → HasDesign top bytes spec → HasOneSolution spec
   pub refusals : (top bytes : List ℕ) (first second : Refusal) → IsRefused top bytes first → IsRefused top bytes second → first ≡ second
-  pub apart : (top bytes : List ℕ) (m : Module) (refusal : Refusal) → IsSource top bytes m → IsRefused top bytes refusal → ⊥
+  pub apart : (top bytes : List ℕ) (spec : Spec) (refusal : Refusal) → HasDesign top bytes spec → IsRefused top bytes refusal → ⊥
 
-pub stimulus_once : OneTrace → (spec : Spec) → IsPlain spec → (found : Option (List ℕ)) (v w : Verdict) (s t : List ℕ) → EndsWithStimulus spec found v s → EndsWithStimulus spec found w t → (v ≡ w) × (s ≡ t)
-stimulus_once traces spec plain None v w s t a b = (a.0 ∙ sym b.0, traces spec [] s t plain a.1 b.1)
-stimulus_once traces spec plain (Some bytes) v w s t a b = (a.0 ∙ sym b.0, traces spec (stimulus_of (ports_of spec) step_limit bytes).steps s t plain a.1 b.1)
+pub stimulus_once : OneTrace → (spec : Spec) → HasOneSolution spec → (found : Option (List ℕ)) (v w : Verdict) (s t : List ℕ) → EndsWithStimulus spec found v s → EndsWithStimulus spec found w t → (v ≡ w) × (s ≡ t)
+stimulus_once traces spec one None v w s t a b = (a.0 ∙ sym b.0, traces spec [] s t one a.1 b.1)
+stimulus_once traces spec one (Some bytes) v w s t a b = (a.0 ∙ sym b.0, traces spec (stimulus_of (ports_of spec) STEP_LIMIT bytes).steps s t one a.1 b.1)
 
 pub source_once : OneTrace → OneSource → (files : Files) (sim : Sim) (found : Option (List ℕ)) (v w : Verdict) (s t : List ℕ) → EndsWithSource files sim found v s → EndsWithSource files sim found w t → (v ≡ w) × (s ≡ t)
 source_once traces one files sim None v w s t a b = (a.0 ∙ sym b.0, a.1 ∙ sym b.1)
 source_once traces one files sim (Some bytes) v w s t (inl a) (inl b) =
-    let same : b.0 ≡ a.0 = one.trees sim.top bytes b.0 a.0 b.1 a.1 in
-    let other : EndsWithStimulus (design_of a.0) (get files sim.stimulus) w t = subst (λ m. EndsWithStimulus (design_of m) (get files sim.stimulus) w t) same b.2 in
-    stimulus_once traces (design_of a.0) a.1.legal.plain (get files sim.stimulus) v w s t a.2 other
+    let same : b.0 ≡ a.0 = one.designs sim.top bytes b.0 a.0 b.1 a.1 in
+    let other : EndsWithStimulus a.0 (get files sim.stimulus) w t = subst (λ spec. EndsWithStimulus spec (get files sim.stimulus) w t) same b.2 in
+    stimulus_once traces a.0 (one.solution sim.top bytes a.0 a.1) (get files sim.stimulus) v w s t a.2 other
 source_once traces one files sim (Some bytes) v w s t (inl a) (inr b) = absurd (one.apart sim.top bytes a.0 b.0 a.1 b.1)
 source_once traces one files sim (Some bytes) v w s t (inr a) (inl b) = absurd (one.apart sim.top bytes b.0 a.0 b.1 a.1)
 source_once traces one files sim (Some bytes) v w s t (inr a) (inr b) =

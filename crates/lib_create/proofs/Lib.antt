@@ -1,15 +1,5 @@
-pub mod Sources
 pub mod Ending
 pub mod Answering
-pub mod Walking
-pub mod Forms
-pub mod Naming
-pub mod Parts
-pub mod Told
-pub mod Plain
-pub mod Elaborated
-pub mod Repeats
 pub mod PlayedOut
-pub mod Names
 pub mod Compiled
 pub mod Simulated

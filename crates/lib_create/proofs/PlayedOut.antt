@@ -25,23 +25,24 @@ use Rattle.stimulus_reader.specs.Stimulus.{BadLine, Stimulus, stimulus_of}
 use Rattle.session.specs.declared.fault.PlayFault.{PlayFault}
 use Rattle.session.specs.declared.fault.PlayFault.TheVariants as fault
 use Rattle.session.specs.Playing.{Tells, Writes, HasPlayed, bad_line, behind_steps, text_before, text_with}
-use Rattle.lib_create.specs.Outcome.{Verdict, Done, StimulusAbsent, Bad, step_limit, verdict_of_bad, EndsWithStimulus}
+use Rattle.session.specs.declared.playing.TheConstants.{STEP_LIMIT}
+use Rattle.lib_create.specs.Outcome.{Verdict, Done, StimulusAbsent, Bad, verdict_of_bad, EndsWithStimulus}
 use Rattle.lib_create.specs.Answer.{HasCome}
 use Rattle.lib_create.specs.code.Running.{TellsOf, PlayedOver}
 
 -- ---- over a source that tells its bytes
 
-tells_of : (ports : List Port) (answer : Result ℕ PlayFault) (over : Bool) (taken rest bytes : List ℕ) (made : List Step) → bytes ≡ taken ++ rest → (over ≡ true → rest ≡ []) → Tells ports step_limit answer over taken made → TellsOf ports answer bytes made
+tells_of : (ports : List Port) (answer : Result ℕ PlayFault) (over : Bool) (taken rest bytes : List ℕ) (made : List Step) → bytes ≡ taken ++ rest → (over ≡ true → rest ≡ []) → Tells ports STEP_LIMIT answer over taken made → TellsOf ports answer bytes made
 tells_of ports (Ok steps) over taken rest bytes made is follows tells =
     let none : taken ++ rest ≡ taken = ap (λ (xs : List ℕ). taken ++ xs) (follows tells.0) ∙ append-nil taken in
-    (ap (stimulus_of ports step_limit) (is ∙ none) ∙ tells.1, tells.2)
-tells_of ports (Err (fault.Stimulus line reason word)) over taken rest bytes made is follows tells = ap (stimulus_of ports step_limit) is ∙ tells rest follows
-tells_of ports (Err fault.ReadFault) over taken rest bytes made is follows tells = let later = tells rest follows in (later.0, ap (stimulus_of ports step_limit) is ∙ later.1)
-tells_of ports (Err fault.WriteFault) over taken rest bytes made is follows tells = let later = tells rest follows in (later.0, ap (stimulus_of ports step_limit) is ∙ later.1)
+    (ap (stimulus_of ports STEP_LIMIT) (is ∙ none) ∙ tells.1, tells.2)
+tells_of ports (Err (fault.Stimulus line reason word)) over taken rest bytes made is follows tells = ap (stimulus_of ports STEP_LIMIT) is ∙ tells rest follows
+tells_of ports (Err fault.ReadFault) over taken rest bytes made is follows tells = let later = tells rest follows in (later.0, ap (stimulus_of ports STEP_LIMIT) is ∙ later.1)
+tells_of ports (Err fault.WriteFault) over taken rest bytes made is follows tells = let later = tells rest follows in (later.0, ap (stimulus_of ports STEP_LIMIT) is ∙ later.1)
 tells_of ports (Err fault.NoMemory) over taken rest bytes made is follows tells = tells.1
 
 over_bytes : (meaning : Meaning) (answer : Result ℕ PlayFault) (bytes taken : List ℕ) (left : Option (List ℕ)) (held : Held) (before after : Option (List ℕ)) →
-    Took (Some bytes) left taken → HasPlayed meaning step_limit answer taken left held before after → PlayedOver meaning answer bytes before after
+    Took (Some bytes) left taken → HasPlayed meaning STEP_LIMIT answer taken left held before after → PlayedOver meaning answer bytes before after
 over_bytes meaning answer bytes taken left held before after took played =
     record {
       made = played.made;
@@ -56,7 +57,7 @@ over_bytes meaning answer bytes taken left held before after took played =
 
 -- so over the bytes of a name of a folder
 pub over_folder : (content : Option Files) (name : List ℕ) (meaning : Meaning) (answer : Result ℕ PlayFault) (left : Option (List ℕ)) (held : Held) (before after : Option (List ℕ)) →
-    (taken : List ℕ) × Took (rest_of content name 0) left taken × HasPlayed meaning step_limit answer taken left held before after →
+    (taken : List ℕ) × Took (rest_of content name 0) left taken × HasPlayed meaning STEP_LIMIT answer taken left held before after →
     IfSome content (λ files. PlayedOver meaning answer (unwrap_or (get files name) []) before after)
 over_folder None name meaning answer left held before after played = tt
 over_folder (Some files) name meaning answer left held before after played =
@@ -93,9 +94,9 @@ Ended spec found verdict before after = (trace : List ℕ) × EndsWithStimulus s
 -- all steps of the stimulus were made, and this is its bad line or none
 record HasAll (spec : Spec) (bytes : List ℕ) (bad : Option BadLine) (before after : Option (List ℕ)) : Type 0 where
   trace : List ℕ
-  is : IsTrace spec (stimulus_of (ports_of spec) step_limit bytes).steps trace
+  is : IsTrace spec (stimulus_of (ports_of spec) STEP_LIMIT bytes).steps trace
   added : Added before after trace
-  bad_is : (stimulus_of (ports_of spec) step_limit bytes).bad ≡ bad
+  bad_is : (stimulus_of (ports_of spec) STEP_LIMIT bytes).bad ≡ bad
 
 all_of : (spec : Spec) → Benched spec → TextOfRows → (steps : ℕ) (bytes : List ℕ) (before after : Option (List ℕ)) → Over spec (Ok steps) bytes before after → HasAll spec bytes None before after
 all_of spec benched texts steps bytes before after played =
@@ -108,7 +109,7 @@ all_of spec benched texts steps bytes before after played =
     }
 
 all_to_bad : (spec : Spec) → Benched spec → TextOfRows → (f : PlayFault) (bytes : List ℕ) (before after : Option (List ℕ)) (bad : BadLine) → Over spec (Err f) bytes before after →
-    ((played : Over spec (Err f) bytes before after) → (stimulus_of (ports_of spec) step_limit bytes ≡ record { steps = played.made; bad = Some bad }) × Added before after (text_before (ports_of spec) played.shown ++ text_with (ports_of spec) played.shown played.row)) →
+    ((played : Over spec (Err f) bytes before after) → (stimulus_of (ports_of spec) STEP_LIMIT bytes ≡ record { steps = played.made; bad = Some bad }) × Added before after (text_before (ports_of spec) played.shown ++ text_with (ports_of spec) played.shown played.row)) →
     HasAll spec bytes (Some bad) before after
 all_to_bad spec benched texts f bytes before after bad played says =
     let said = says played in

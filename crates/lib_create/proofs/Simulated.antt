@@ -11,7 +11,6 @@ use Rattle.lib_create.specs.declared.compile.Compiled.{Compiled}
 use Rattle.lib_create.specs.declared.compile.Compiled.TheVariants.{Absent, Refused, Design}
 use Rattle.lib_create.specs.Command.{Sim, meaning_of}
 use Rattle.lib_create.specs.code.Compiling.{IsCompiled}
-use Rattle.lib_create.specs.Design.{design_of}
 use Rattle.lib_create.specs.Outcome.{Verdict, SourceAbsent, SourceRefused, EndsWithStimulus, EndsWithSource, EndsWithWords, Ends}
 use Rattle.lib_create.specs.Answer.{HasCome, CutShort, NothingDue, InTrace}
 
@@ -51,15 +50,14 @@ refused_told content words sim found refusal before said compiled is =
 -- a run of the design is a run of the command
 source : (files : Files) (sim : Sim) (held : Option (List ℕ)) (spec : Spec) (verdict : Verdict) (trace : List ℕ) → IsCompiled held sim.top (Design spec) → EndsWithStimulus spec (get files sim.stimulus) verdict trace → EndsWithSource files sim held verdict trace
 source files sim None spec verdict trace is ends = absurd is
-source files sim (Some bytes) spec verdict trace (m, is, same) ends = inl (m, is, subst (λ s. EndsWithStimulus s (get files sim.stimulus) verdict trace) same ends)
+source files sim (Some bytes) spec verdict trace is ends = inl (spec, is, ends)
 
 -- where it was cut short, so was the command
 cut_source : (files : Files) (words : List (List ℕ)) (sim : Sim) (held : Option (List ℕ)) (spec : Spec) (before after : Option (List ℕ)) → meaning_of words ≡ Ok sim → get files sim.file ≡ held → IsCompiled held sim.top (Design spec) →
     Added before after [] ⊎ HasCome spec (get files sim.stimulus) before after → CutShort files words before after
 cut_source files words sim None spec before after said there is cut = absurd is
 cut_source files words sim (Some bytes) spec before after said there is (inl nothing) = NothingDue nothing
-cut_source files words sim (Some bytes) spec before after said there (m, is, same) (inr come) =
-    InTrace sim said bytes there m is (subst (λ s. HasCome s (get files sim.stimulus) before after) same come)
+cut_source files words sim (Some bytes) spec before after said there is (inr come) = InTrace sim said bytes there spec is come
 
 pub design_cut_told : (content later : Option Files) (words : List (List ℕ)) (sim : Sim) (found : Compiled) (spec : Spec) (before after : Option (List ℕ)) → Ok sim ≡ meaning_of words → later ≡ content →
     IfSome content (λ files. IsCompiled (get files sim.file) sim.top found) → found ≡ Design spec → IfSome later (λ files. Added before after [] ⊎ HasCome spec (get files sim.stimulus) before after) →

@@ -10,10 +10,10 @@ use Rattle.net_ir.specs.Face.{ports_of}
 use Rattle.net_ir.specs.Trace.{IsTrace}
 use Rattle.stimulus_reader.specs.Stimulus.{Stimulus, stimulus_of}
 use Rattle.session.specs.Playing.{behind_steps}
-use Rattle.lib_create.specs.declared.tree.Module.{Module}
+use Rattle.sealer.specs.Source.{HasDesign}
 use Rattle.lib_create.specs.Command.{Sim, meaning_of}
-use Rattle.lib_create.specs.Design.{design_of}
-use Rattle.lib_create.specs.Outcome.{Outcome, IsOutcome, IsSource, step_limit}
+use Rattle.session.specs.declared.playing.TheConstants.{STEP_LIMIT}
+use Rattle.lib_create.specs.Outcome.{Outcome, IsOutcome}
 
 abbrev pub read_fault : List ℕ
 read_fault = codes "read fault" ++ 10 ∷ []
@@ -37,7 +37,7 @@ pub record Answered (files : Files) (words : List (List ℕ)) (status : ℕ) (ou
 pub record HasCome (spec : Spec) (found : Option (List ℕ)) (before after : Option (List ℕ)) : Type 0 where
   pub made : List Step
   pub later : Stimulus
-  pub first : stimulus_of (ports_of spec) step_limit (unwrap_or found []) ≡ behind_steps made later
+  pub first : stimulus_of (ports_of spec) STEP_LIMIT (unwrap_or found []) ≡ behind_steps made later
   pub due : List ℕ
   pub trace : IsTrace spec made due
   pub added : AddedFront before after due
@@ -46,8 +46,8 @@ pub record HasCome (spec : Spec) (found : Option (List ℕ)) (before after : Opt
 -- legal and it was playing
 pub data CutShort (files : Files) (words : List (List ℕ)) (before after : Option (List ℕ)) : Type 0 where
   NothingDue : (added : Added before after []) → CutShort files words before after
-  InTrace : (sim : Sim) (said : meaning_of words ≡ Ok sim) (bytes : List ℕ) (there : get files sim.file ≡ Some bytes) (m : Module) (source : IsSource sim.top bytes m)
-      (come : HasCome (design_of m) (get files sim.stimulus) before after) → CutShort files words before after
+  InTrace : (sim : Sim) (said : meaning_of words ≡ Ok sim) (bytes : List ℕ) (there : get files sim.file ≡ Some bytes) (spec : Spec) (source : HasDesign sim.top bytes spec)
+      (come : HasCome spec (get files sim.stimulus) before after) → CutShort files words before after
 
 -- a message that was due on standard error: that of the outcome, that of a write to standard output or to the folder which failed,
 -- that of a read which failed, or that of want of memory
@@ -76,8 +76,8 @@ pub record IsGood (files : Files) (words : List (List ℕ)) : Type 0 where
   pub said : meaning_of words ≡ Ok sim
   pub bytes : List ℕ
   pub there : get files sim.file ≡ Some bytes
-  pub module_of : Module
-  pub source : IsSource sim.top bytes module_of
+  pub spec : Spec
+  pub source : HasDesign sim.top bytes spec
   pub stimulus : List ℕ
   pub stimulus_there : get files sim.stimulus ≡ Some stimulus
-  pub good : (stimulus_of (ports_of (design_of module_of)) step_limit stimulus).bad ≡ None
+  pub good : (stimulus_of (ports_of spec) STEP_LIMIT stimulus).bad ≡ None

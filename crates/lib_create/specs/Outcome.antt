@@ -1,22 +1,16 @@
 -- What the program owes for words and files: a status, what it writes on standard output, and what on standard error.
-use Rattle.std.specs.Prelude.{◌≡◌, ℕ, zero, suc, ◌<◌, ◌≤◌, List, [], ◌∷◌, ◌++◌, length, codes, Option, None, Some, Result, Ok, Err, ◌⊎◌}
+use Rattle.std.specs.Prelude.{◌≡◌, ℕ, zero, suc, List, [], ◌∷◌, ◌++◌, codes, Option, None, Some, Result, Ok, Err, ◌⊎◌}
 use Rattle.std.specs.Fmt.{decimal}
 use Rattle.std.specs.FinMap.{get}
 use Rattle.io_edge.specs.File.{Files}
 use Rattle.sv_base.specs.Kind.{text_of}
-use Rattle.sv_base.specs.declared.kind.Kind.TheVariants.{TooMany}
 use Rattle.sv_base.specs.declared.refusal.Refusal.{Refusal}
 use Rattle.net_ir.specs.declared.design.Spec.{Spec}
 use Rattle.net_ir.specs.Face.{ports_of}
 use Rattle.net_ir.specs.Trace.{IsTrace}
-use Rattle.sv_lexer.specs.declared.token.Token.{Token}
-use Rattle.sv_lexer.specs.Cutting as lexer
-use Rattle.sv_ast.specs.declared.module.Module as source
-use Rattle.module_parser.specs.Outcome as parser
 use Rattle.session.specs.declared.playing.TheConstants.{STEP_LIMIT}
-use Rattle.lib_create.specs.declared.tree.Module.{Module}
+use Rattle.sealer.specs.Source.{HasDesign, IsRefused}
 use Rattle.lib_create.specs.Command.{Sim, Misuse, Wrong, TooFew, meaning_of}
-use Rattle.lib_create.specs.Design.{design_of, IsLegal, IsIllegal}
 use Rattle.stimulus_reader.specs.Stimulus.{BadLine, Stimulus, stimulus_of, reason_text}
 
 -- how a run ends that no call of the outside cuts short
@@ -64,33 +58,6 @@ message_of (SourceRefused file refusal) = refusal_text file refusal ++ 10 ∷ []
 message_of StimulusAbsent = codes "stimulus 1: absent" ++ 10 ∷ []
 message_of (Bad bad) = codes "stimulus " ++ decimal bad.line ++ codes ": " ++ reason_text bad.reason bad.word ++ 10 ∷ []
 
--- the most bytes of a source, and the most steps after step 0
-abbrev pub source_limit : ℕ
-source_limit = 1048576
-
-abbrev pub step_limit : ℕ
-step_limit = STEP_LIMIT
-
--- the refusal of a source above its limit
-abbrev pub source_too_long : Refusal
-source_too_long = record { kind = TooMany; place = record { file = 1; line = 1 }; name = codes "file" }
-
--- the bytes of the source are tokens, these are the modules of a file, and they are a legal source of this top, whose tree is m
-pub record IsSource (top bytes : List ℕ) (m : Module) : Type 0 where
-  pub short : length bytes ≤ source_limit
-  pub tokens : List Token
-  pub lexed : lexer.IsTokens 1 bytes tokens
-  pub modules : List source.Module
-  pub read : parser.IsRead tokens modules
-  pub legal : IsLegal top modules m
-
--- why they are none: they are too many, they have no tokens, those are no file, or its modules are no design of this top
-pub data IsRefused (top bytes : List ℕ) (refusal : Refusal) : Type 0 where
-  TooLong : (long : source_limit < length bytes) (told : refusal ≡ source_too_long) → IsRefused top bytes refusal
-  NoTokens : (short : length bytes ≤ source_limit) (refused : lexer.IsRefused 1 bytes refusal) → IsRefused top bytes refusal
-  NoModules : (short : length bytes ≤ source_limit) (tokens : List Token) (lexed : lexer.IsTokens 1 bytes tokens) (refused : parser.IsRefused tokens refusal) → IsRefused top bytes refusal
-  NoDesign : (short : length bytes ≤ source_limit) (tokens : List Token) (lexed : lexer.IsTokens 1 bytes tokens) (modules : List source.Module) (read : parser.IsRead tokens modules) (illegal : IsIllegal top modules refusal) → IsRefused top bytes refusal
-
 -- how the run of a design ends, and its trace, by its stimulus
 abbrev pub verdict_of_bad : Option BadLine → Verdict
 verdict_of_bad None = Done
@@ -102,13 +69,13 @@ EndsWithSteps spec stimulus verdict trace = (verdict ≡ verdict_of_bad stimulus
 -- the stimulus is not there: the trace has no step but step 0
 abbrev pub EndsWithStimulus : Spec → Option (List ℕ) → Verdict → List ℕ → Type 0
 EndsWithStimulus spec None verdict trace = (verdict ≡ StimulusAbsent) × IsTrace spec [] trace
-EndsWithStimulus spec (Some bytes) verdict trace = EndsWithSteps spec (stimulus_of (ports_of spec) step_limit bytes) verdict trace
+EndsWithStimulus spec (Some bytes) verdict trace = EndsWithSteps spec (stimulus_of (ports_of spec) STEP_LIMIT bytes) verdict trace
 
--- the source has a legal design, or it is refused
+-- the source has a design, or it is refused
 abbrev pub EndsWithSource : Files → Sim → Option (List ℕ) → Verdict → List ℕ → Type 0
 EndsWithSource files sim None verdict trace = (verdict ≡ SourceAbsent sim.file) × (trace ≡ [])
 EndsWithSource files sim (Some bytes) verdict trace =
-    ((m : Module) × IsSource sim.top bytes m × EndsWithStimulus (design_of m) (get files sim.stimulus) verdict trace)
+    ((spec : Spec) × HasDesign sim.top bytes spec × EndsWithStimulus spec (get files sim.stimulus) verdict trace)
     ⊎ ((refusal : Refusal) × IsRefused sim.top bytes refusal × (verdict ≡ SourceRefused sim.file refusal) × (trace ≡ []))
 
 -- the words are the command's, or they are refused

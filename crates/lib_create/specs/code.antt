@@ -1,6 +1,3 @@
-pub mod Forming
-pub mod Elaborating
-pub mod Faults
 pub mod Running
 pub mod CommandWords
 pub mod Loading

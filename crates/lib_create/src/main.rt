@@ -3,12 +3,8 @@
 
 mod command;
 mod compile;
-mod elaboration;
-mod fault;
 mod law;
 mod load;
-mod modules;
-mod plain_form;
 #[cfg(test)]
 mod play_tests;
 mod playing;
@@ -17,7 +13,6 @@ mod run;
 mod run_tests;
 mod simulate;
 mod stop;
-mod tree;
 mod verdict;
 
 use io_edge::{DiskFolder, StreamSink};

@@ -5,12 +5,12 @@ ghost use Rattle.std.specs.List.{IsDistinct};
 ghost use Rattle.std.specs.Str.{bytes_eq};
 ghost use Rattle.sv_base.specs.declared.face.Port.{Port};
 ghost use Rattle.net_ir.specs.Face.{ports_of};
-ghost use Rattle.net_ir.specs.Plain.{IsPlain};
+ghost use Rattle.plain_run.specs.Plain.{IsPlain};
 
 use crate::compile::{Compiled, compile_bytes};
 use io_edge::{MemSink, MemSource};
-use net_ir::{Spec, face, law};
-use plain_run::PlainBench;
+use net_ir::{Spec, face};
+use plain_run::{PlainBench, law};
 use session::{PlayFault, play};
 use std::alloc::{AllocError, AllocGlobal, Global};
 use std::process::Abort;
@@ -24,9 +24,6 @@ fn design(alloc: Global, source: &str) -> Result<Spec, Fail>
     ensures plain { IfOk result IsPlain }
     ensures names { IfOk result (λ spec. IsDistinct bytes_eq (map (λ (p : Port). p.name) (ports_of spec))) }
 {
-    if source.len() > 1000 {
-        return Err("a long source")?;
-    }
     match compile_bytes(alloc, "t", source.as_bytes()) {
         Ok(Compiled::Design(spec)) => Ok(spec),
         _ => Err("no design")?,

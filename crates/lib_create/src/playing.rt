@@ -8,20 +8,22 @@ ghost use Rattle.io_edge.specs.Told.{Added};
 ghost use Rattle.sv_base.specs.declared.face.Port.{Port};
 ghost use Rattle.sv_base.specs.Meaning.{first_state, held_in};
 ghost use Rattle.net_ir.specs.Face.{ports_of};
-ghost use Rattle.net_ir.specs.Plain.{IsPlain};
+ghost use Rattle.plain_run.specs.Plain.{IsPlain};
 ghost use Rattle.session.specs.Playing as played;
 ghost use Rattle.session.specs.Playing.{ArePlayable};
 ghost use Rattle.lib_create.specs.code.Verdicts.{verdict_seen};
 ghost use Rattle.lib_create.specs.code.Running.{IsReadCause, IsPlayCause, PlayedOver};
-ghost use Rattle.lib_create.specs.Outcome.{step_limit, EndsWithStimulus};
+ghost use Rattle.session.specs.declared.playing.TheConstants.{STEP_LIMIT};
+ghost use Rattle.lib_create.specs.Outcome.{EndsWithStimulus};
 ghost use Rattle.lib_create.specs.Answer.{HasCome};
 
 use crate::stop::Stop;
 use crate::verdict::{BadLine, Verdict};
 use io_edge::{Folder, FolderSource, Got, Sink};
 use model_stage::Bench;
-use net_ir::{Spec, face, law};
-use plain_run::PlainBench;
+use net_ir::law::benched_run;
+use net_ir::{Spec, face};
+use plain_run::{PlainBench, law};
 use session::playing::STEP_LIMIT;
 use session::{PlayFault, play};
 use std::alloc::Global;
@@ -49,22 +51,16 @@ pub fn run_design<'a, D: Folder, K: Sink>(
 {
     law::plain_ports();
     law::plain_idle();
-    law::benched_run();
+    benched_run();
     session::law::text_of_rows();
-    let seen = match face(alloc, &spec) {
-        Err(_) => return Err(Stop::NoMemory),
-        Ok(seen) => seen,
-    };
-    let mut bench = match PlainBench::new(alloc, spec, &seen) {
-        Err(_) => return Err(Stop::NoMemory),
-        Ok(bench) => bench,
-    };
+    let seen = face(alloc, &spec)?;
+    let mut bench = PlainBench::new(alloc, spec, &seen)?;
     match play_file(alloc, &mut bench, &seen, stimulus, folder, out) {
-        Ok(0) => match is_there(folder, stimulus) {
-            Err(stop) => Err(stop),
-            Ok(false) => Ok(Verdict::StimulusAbsent),
-            Ok(true) => Ok(Verdict::Done),
-        },
+        Ok(0) => Ok(if is_there(folder, stimulus)? {
+            Verdict::Done
+        } else {
+            Verdict::StimulusAbsent
+        }),
         Ok(_) => Ok(Verdict::Done),
         Err(PlayFault::Stimulus { line, reason, word }) => {
             Ok(Verdict::Bad(BadLine { line, reason, word }))
@@ -87,7 +83,7 @@ fn play_file<B: Bench, D: Folder, K: Sink>(
     requires face { seen.now.ports ≡ (B.meaning bench.old).ports }
     requires ports { ArePlayable seen.now.ports }
     requires start { B.held bench.old ≡ held_in (B.meaning bench.old).ports (first_state (B.meaning bench.old)) }
-    requires room { step_limit ≤ B.room bench.old }
+    requires room { STEP_LIMIT ≤ B.room bench.old }
     ensures played { IfSome (D.content folder.old) (λ files.
         PlayedOver (B.meaning bench.old) result (unwrap_or (get files stimulus.now) []) (K.written out.old) (K.written out.new)) }
     ensures cause { IfErr result (λ fault. played.IsPlayCause fault (D.read_faults folder.old) (D.read_faults folder.new) (K.faults out.old) (K.faults out.new)) }

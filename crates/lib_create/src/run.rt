@@ -16,6 +16,7 @@ use crate::stop::Stop;
 use crate::verdict::{Verdict, message, status};
 use io_edge::{Folder, Sink, offer};
 use model_stage::Order;
+use sealer::law::one_source;
 use std::alloc::Global;
 
 /// Does all that the program does, and answers its status: 0 done, 2 the words are refused, 3 the source is, 5 the
@@ -69,7 +70,7 @@ pub fn run_words<D: Folder, K: Sink, E: Sink, F: Fn(u32, u32) -> u32>(
         IsGood files (map string_bytes words.now.items) → (result ≡ 0) ⊎ (result ≡ 9)) }
 {
     law::one_end();
-    law::one_source();
+    one_source();
     match simulate(alloc, words.as_slice(), folder, out) {
         Err(stop) => complain(err, stop),
         Ok(verdict) => report(alloc, err, &verdict),

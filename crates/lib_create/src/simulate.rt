@@ -36,10 +36,9 @@ pub fn simulate<'a, D: Folder, K: Sink>(
         Err(misuse) => return Ok(Verdict::Misused(misuse)),
         Ok(sim) => sim,
     };
-    match compile(alloc, sim, folder) {
-        Err(stop) => Err(stop),
-        Ok(Compiled::Absent) => Ok(Verdict::SourceAbsent(sim.file)),
-        Ok(Compiled::Refused(refusal)) => Ok(Verdict::SourceRefused(sim.file, refusal)),
-        Ok(Compiled::Design(spec)) => run_design(alloc, spec, sim.stimulus, folder, out),
+    match compile(alloc, sim, folder)? {
+        Compiled::Absent => Ok(Verdict::SourceAbsent(sim.file)),
+        Compiled::Refused(refusal) => Ok(Verdict::SourceRefused(sim.file, refusal)),
+        Compiled::Design(spec) => run_design(alloc, spec, sim.stimulus, folder, out),
     }
 }

@@ -9,7 +9,7 @@ use Rattle.stimulus_reader.specs.Stimulus as stimulus
 use Rattle.session.specs.declared.fault.PlayFault.{PlayFault}
 use Rattle.session.specs.declared.fault.PlayFault.TheVariants as fault
 use Rattle.session.specs.Playing.{bad_line, behind_steps, text_before, text_with, Writes}
-use Rattle.lib_create.specs.Outcome.{step_limit}
+use Rattle.session.specs.declared.playing.TheConstants.{STEP_LIMIT}
 use Rattle.io_edge.specs.Fault.{Rose}
 use Rattle.lib_create.specs.declared.stop.Stop.{Stop}
 use Rattle.lib_create.specs.declared.stop.Stop.TheVariants.{ReadFault, WriteFault, NoMemory}
@@ -28,10 +28,10 @@ IsPlayCause NoMemory reads_before reads_now writes_before writes_now = ⊤
 
 -- what an answer says of the stimulus of these bytes, of which these steps were made
 abbrev pub TellsOf : List Port → Result ℕ PlayFault → List ℕ → List Step → Type 0
-TellsOf ports (Ok steps) bytes made = (stimulus_of ports step_limit bytes ≡ record { steps = made; bad = None }) × (steps ≡ length made)
-TellsOf ports (Err (fault.Stimulus line reason word)) bytes made = stimulus_of ports step_limit bytes ≡ record { steps = made; bad = Some (bad_line line reason word.items) }
-TellsOf ports (Err fault.ReadFault) bytes made = (later : stimulus.Stimulus) × (stimulus_of ports step_limit bytes ≡ behind_steps made later)
-TellsOf ports (Err fault.WriteFault) bytes made = (later : stimulus.Stimulus) × (stimulus_of ports step_limit bytes ≡ behind_steps made later)
+TellsOf ports (Ok steps) bytes made = (stimulus_of ports STEP_LIMIT bytes ≡ record { steps = made; bad = None }) × (steps ≡ length made)
+TellsOf ports (Err (fault.Stimulus line reason word)) bytes made = stimulus_of ports STEP_LIMIT bytes ≡ record { steps = made; bad = Some (bad_line line reason word.items) }
+TellsOf ports (Err fault.ReadFault) bytes made = (later : stimulus.Stimulus) × (stimulus_of ports STEP_LIMIT bytes ≡ behind_steps made later)
+TellsOf ports (Err fault.WriteFault) bytes made = (later : stimulus.Stimulus) × (stimulus_of ports STEP_LIMIT bytes ≡ behind_steps made later)
 TellsOf ports (Err fault.NoMemory) bytes made = made ≡ []
 
 -- a bench was played over these bytes with this answer, and what was written changed so

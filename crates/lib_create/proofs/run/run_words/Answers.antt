@@ -42,7 +42,7 @@ returns-in-Ok-clause-complete g c calm =
 
 pub returns-in-Ok-clause-succeeds : goal.returns-in-Ok-clause-succeeds
 returns-in-Ok-clause-succeeds g c calm =
-    succeeded (record { trees = c.one_source.ensures.trees; refusals = c.one_source.ensures.refusals; apart = c.one_source.ensures.apart })
+    succeeded (record { designs = c.one_source.ensures.designs; solution = c.one_source.ensures.solution; refusals = c.one_source.ensures.refusals; apart = c.one_source.ensures.apart })
     (g.D.Folder.content c.args.folder.now) (map string_bytes c.args.words.now.items) c.report.result _ _ _ _
     (end_complete (g.D.Folder.content c.args.folder.now) (map string_bytes c.args.words.now.items) (verdict_seen c.in-Ok.verdict) c.report.result _ _ _ _ _
     (subst (λ ws. IfSome (g.D.Folder.content c.args.folder.now) (λ files. Gave files (map string_bytes ws) (verdict_seen c.in-Ok.verdict) (g.K.Sink.written c.args.out.now) (g.K.Sink.written c.simulate.new.out))) c.as_slice.ensures.value c.in-Ok.ensures.ends)

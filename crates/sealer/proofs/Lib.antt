@@ -1,0 +1,10 @@
+pub mod Walking
+pub mod Naming
+pub mod Parts
+pub mod Told
+pub mod Plain
+pub mod Elaborated
+pub mod Repeats
+pub mod Names
+pub mod Sources
+pub mod Fronts
