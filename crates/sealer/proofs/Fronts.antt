@@ -30,11 +30,11 @@ use Rattle.sealer.proofs.Names.{ports_distinct}
 -- ---- the modules of a source
 
 -- the refusals of the lexer and of the parser are refusals of the source
-pub lexer_refuses : (top bytes : List ℕ) (fault : Fault) → length bytes ≤ SOURCE_LIMIT → lexer.IsFaultOf 1 bytes fault → IfRefused (IsRefused top bytes) fault
+pub lexer_refuses : (top bytes : List ℕ) (fault : Fault) → length bytes ≤ SOURCE_LIMIT → IfRefused (lexer.IsRefused 1 bytes) fault → IfRefused (IsRefused top bytes) fault
 lexer_refuses top bytes (Refused refusal) short refuses = NoTokens short refuses
 lexer_refuses top bytes NoMemory short refuses = tt
 
-pub parser_refuses : (top bytes : List ℕ) (tokens : List Token) (fault : Fault) → length bytes ≤ SOURCE_LIMIT → lexer.IsTokens 1 bytes tokens → parser.IsFaultOf tokens fault → IfRefused (IsRefused top bytes) fault
+pub parser_refuses : (top bytes : List ℕ) (tokens : List Token) (fault : Fault) → length bytes ≤ SOURCE_LIMIT → lexer.IsTokens 1 bytes tokens → IfRefused (parser.IsRefused tokens) fault → IfRefused (IsRefused top bytes) fault
 parser_refuses top bytes tokens (Refused refusal) short are refuses = NoModules short tokens are refuses
 parser_refuses top bytes tokens NoMemory short are refuses = tt
 

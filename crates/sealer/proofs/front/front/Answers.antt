@@ -7,7 +7,7 @@ use Rattle.sealer.proofs.front.front.Goals as goal
 
 pub returns-in_err-tokens-clause-refused : goal.returns-in_err-tokens-clause-refused
 returns-in_err-tokens-clause-refused c =
-    let p = err_from_is_err_and c.from_residual.result c.from_residual.ensures.1 in
+    let p = err_from_is_err_and c.from_residual-in_err-tokens.result c.from_residual-in_err-tokens.ensures.1 in
     rw (p.1, p.2) (lexer_refuses c.args.top.now c.args.bytes.now c.in_err-tokens.field-0.0 c.if-bytes-gt-SOURCE_LIMIT.false c.in_err-tokens.ensures.refused)
 
 pub returns-in_err-modules-clause-refused : goal.returns-in_err-modules-clause-refused
