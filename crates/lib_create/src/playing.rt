@@ -53,14 +53,21 @@ pub fn run_design<'a, D: Folder, K: Sink>(
     law::plain_idle();
     benched_run();
     session::law::text_of_rows();
-    let seen = face(alloc, &spec)?;
-    let mut bench = PlainBench::new(alloc, spec, &seen)?;
+    // matches, since a design or a bench that is alive across a `?` takes the prover minutes
+    let seen = match face(alloc, &spec) {
+        Err(_) => return Err(Stop::NoMemory),
+        Ok(seen) => seen,
+    };
+    let mut bench = match PlainBench::new(alloc, spec, &seen) {
+        Err(_) => return Err(Stop::NoMemory),
+        Ok(bench) => bench,
+    };
     match play_file(alloc, &mut bench, &seen, stimulus, folder, out) {
-        Ok(0) => Ok(if is_there(folder, stimulus)? {
-            Verdict::Done
-        } else {
-            Verdict::StimulusAbsent
-        }),
+        Ok(0) => match is_there(folder, stimulus) {
+            Err(stop) => Err(stop),
+            Ok(false) => Ok(Verdict::StimulusAbsent),
+            Ok(true) => Ok(Verdict::Done),
+        },
         Ok(_) => Ok(Verdict::Done),
         Err(PlayFault::Stimulus { line, reason, word }) => {
             Ok(Verdict::Bad(BadLine { line, reason, word }))
