@@ -1,15 +1,19 @@
 -- A block whose slots are given other values, and get them.
 use Rattle.std.proofs.Common.{◌≡◌, ◌≢◌, ℕ, zero, suc, ◌+◌, ◌-◌, ◌<◌, ◌≤◌, inl, inr, Bool, true, false, List, [], ◌∷◌, ◌++◌, length, map, take, drop, get_or, set, replicate, refl, sym, ◌∙◌, ap, subst, arith}
-use Rattle.std.specs.Prelude.{slice_index, slice_get, Some}
+use Rattle.std.specs.Prelude.{slice_index, slice_get, Some, All}
+use Rattle.std.specs.List.{flat_map}
+use Rattle.code_isa.specs.declared.machine.Reg.{Reg}
+use Rattle.code_isa.specs.declared.machine.Kid.{Kid}
+use Rattle.code_isa.specs.Faces.{input_widths, output_widths}
 use Rattle.std.specs.Vec.{with_item}
 use Rattle.std.proofs.lemmas.Bool.{cases_eq, cases_lt}
-use Rattle.std.proofs.lemmas.List.{get_or-set_other, get_or-set_same, length-map, length-set, length-append, get_or-map, map-set, set-get_or, get_or-take, get_or-drop, get_or_append_left, get_or_past, take_more, ext_get_or, length-take-le, map_push, replicate_more, append_assoc}
+use Rattle.std.proofs.lemmas.List.{get_or-set_other, get_or-set_same, length-map, length-set, length-append, get_or-map, map-set, set-get_or, get_or-take, get_or-drop, get_or_append_left, get_or_past, take_more, ext_get_or, length-take-le, map_push, replicate_more, append_assoc, get_or-append-add}
 use Rattle.std.proofs.Math.Seq.{map-set_same}
 use Rattle.bit_ops.specs.Lists.{words, widths}
 use Rattle.bit_ops.specs.declared.value.Bits.{Bits}
 use Rattle.code_isa.specs.declared.machine.Instr.{Instr}
 use Rattle.code_isa.specs.declared.machine.Machine.{Machine}
-use Rattle.code_isa.specs.Slots.{slot_widths, given_widths, first_instruction, width_at}
+use Rattle.code_isa.specs.Slots.{slot_widths, given_widths, first_register, first_instruction, width_at}
 use Rattle.code_isa.specs.Marks.{is_member}
 use Rattle.wrapper_core.specs.declared.block.Block.{Block}
 use Rattle.std.proofs.lemmas.Option.{slice_get-get_or, slice_get_within}
@@ -179,3 +183,18 @@ none_copied n waiting slots given all s before clear = absurd (true_is_not_false
 
 pub none_settled : (m : Machine) (marks : List Bool) (slots : List ℕ) → HasAll marks (length m.code) → HaveValuesBut m marks slots
 none_settled m marks slots all k clear i at = absurd (true_is_not_false (is_member marks k) (all.all k (slice_get_within m.code k i at)) clear)
+
+-- what holds of all items holds of one that was read
+pub all_at : {X : Type 0} (P : X → Type 0) (xs : List X) (k : ℕ) (x : X) → All P xs → k < length xs → x ≡ get_or xs k x → P x
+all_at P xs k x all inside is = subst P (sym is) (all k x inside)
+
+-- the width of a register's slot is the register's
+pub register_width : (m : Machine) (r : ℕ) → r < length m.regs → width_at m (first_register m + r) ≡ slice_index (map (λ (x : Reg). x.width) m.regs) r
+register_width m r inside =
+    let ins = input_widths m.face in
+    let regs = map (λ (x : Reg). x.width) m.regs in
+    let outs = flat_map (λ (kid : Kid). output_widths kid.face) m.kids in
+    let size : length regs ≡ length m.regs = length-map m.regs (λ (x : Reg). x.width) in
+    let low : first_register m + r < length (ins ++ regs) = omega (arith, inside, size, length-append ins regs) in
+    width_before m (first_register m + r) (let e : first_register m + r < first_instruction m = omega (arith, low, length-append (ins ++ regs) outs) in e)
+    ∙ get_or_append_left (ins ++ regs) outs 0 (first_register m + r) low ∙ get_or-append-add ins regs r 0

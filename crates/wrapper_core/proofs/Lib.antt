@@ -3,3 +3,8 @@ pub mod Settling
 pub mod Schedules
 pub mod Blocking
 pub mod Copying
+pub mod Clocking
+pub mod Giving
+pub mod Seats
+pub mod Cores
+pub mod Publishing

@@ -18,7 +18,7 @@ pub placed_none : (xs : List ℕ) (first : ℕ) → placed xs first [] ≡ xs
 placed_none xs first =
     ap (λ zs. zs ++ drop (first + 0) xs) (append-nil (take first xs)) ∙ ap (λ n. take first xs ++ drop n xs) (let e : first + 0 ≡ first = omega arith in e) ∙ take-append-drop first xs
 
-front_size : (xs ys : List ℕ) (first : ℕ) → first ≤ length xs → length (take first xs ++ ys) ≡ first + length ys
+pub front_size : (xs ys : List ℕ) (first : ℕ) → first ≤ length xs → length (take first xs ++ ys) ≡ first + length ys
 front_size xs ys first low = length-append (take first xs) ys ∙ ap (λ n. n + length ys) (length-take-le first xs low)
 
 pub placed_more : (xs : List ℕ) (first : ℕ) (ys : List ℕ) (y : ℕ) → first + length ys < length xs → set (placed xs first ys) (first + length ys) y ≡ placed xs first (ys ++ y ∷ [])

@@ -12,7 +12,7 @@ use Rattle.model_stage.specs.Model.{Model, Strikes, Publishes}
 use Rattle.wrapper_core.specs.declared.event.Event.{Event}
 use Rattle.wrapper_core.specs.declared.event.Event.TheVariants.{Own, Update, StrikeOwn, Strike, Commit}
 use Rattle.wrapper_core.specs.declared.wrapped.Wrapped.{Wrapped}
-use Rattle.wrapper_core.specs.Snapshot.{Phase, Calm, Striking, Snapshot, states_of, tree_in, state_in, with_slots, with_phase, with_child, with_levels, committed}
+use Rattle.wrapper_core.specs.Snapshot.{Phase, Calm, Striking, Snapshot, states_of, tree_in, state_in, with_levels}
 use Rattle.wrapper_core.specs.Events.{IsEnabled, Does, Schedule, IsPublished, ArePublished}
 use Rattle.wrapper_core.specs.Striking.{IsStriking, ShowsSame, TakesAllEdges}
 
@@ -140,19 +140,19 @@ module _ {X : Type 0} (model : X → Model) where
           registers = was.registers;
           levels_are = was.levels_are;
           phase = was.phase;
-          each = length-set s.children i does.now ∙ was.each;
-          children = λ j kid c d kj cj dj. elim (got_set s.children i j does.now d dj) [
+          each = ap length does.at.rest ∙ length-set s.children i does.at.now ∙ was.each;
+          children = λ j kid c d kj cj dj. elim (got_set s.children i j does.at.now d (ap (λ xs. slice_get xs j) (sym does.at.rest) ∙ dj)) [
             | inl here ↦
-                let there : slice_get s.children j ≡ Some does.was = ap (slice_get s.children) here.0 ∙ does.was_at in
-                let free : does.was.struck ≡ false = ap (λ (w : Wrapped X). w.struck) (found_same s.children i does.was enabled.was does.was_at enabled.was_at) ∙ enabled.unstruck in
-                elim (was.children j kid c does.was kj cj there) [
+                let there : slice_get s.children j ≡ Some does.at.was = ap (slice_get s.children) here.0 ∙ does.at.was_at in
+                let free : does.at.was.struck ≡ false = ap (λ (w : Wrapped X). w.struck) (found_same s.children i does.at.was enabled.was does.at.was_at enabled.was_at) ∙ enabled.unstruck in
+                elim (was.children j kid c does.at.was kj cj there) [
                   | inl same ↦
-                      let kid_same : does.kid ≡ kid = same_Some does.kid kid (sym does.kid_at ∙ ap (λ (m : Machine). slice_get m.kids i) was.code ∙ ap (slice_get start.code.kids) (sym here.0) ∙ kj) in
-                      let strikes : Strikes (levels_at levels kid.clocks) (model c.child) (model does.now.child) =
-                      subst (λ (w : Wrapped X). Strikes (levels_at levels kid.clocks) (model w.child) (model does.now.child)) same
-                      (subst (λ (k : Kid). Strikes (levels_at levels k.clocks) (model does.was.child) (model does.now.child)) kid_same
-                      (subst (λ l. Strikes (levels_at l does.kid.clocks) (model does.was.child) (model does.now.child)) was.levels_are does.strikes)) in
-                      inr (subst (StruckFrom (levels_at levels kid.clocks) c) (sym here.1) (record { strikes = strikes; wrapper = does.wrapper ∙ ap (λ (w : Wrapped X). w.wrapper) same; struck = does.struck }))
+                      let kid_same : does.at.kid ≡ kid = same_Some does.at.kid kid (sym does.at.kid_at ∙ ap (λ (m : Machine). slice_get m.kids i) was.code ∙ ap (slice_get start.code.kids) (sym here.0) ∙ kj) in
+                      let strikes : Strikes (levels_at levels kid.clocks) (model c.child) (model does.at.now.child) =
+                      subst (λ (w : Wrapped X). Strikes (levels_at levels kid.clocks) (model w.child) (model does.at.now.child)) same
+                      (subst (λ (k : Kid). Strikes (levels_at levels k.clocks) (model does.at.was.child) (model does.at.now.child)) kid_same
+                      (subst (λ l. Strikes (levels_at l does.at.kid.clocks) (model does.at.was.child) (model does.at.now.child)) was.levels_are does.at.strikes)) in
+                      inr (subst (StruckFrom (levels_at levels kid.clocks) c) (sym here.1) (record { strikes = strikes; wrapper = does.at.wrapper ∙ ap (λ (w : Wrapped X). w.wrapper) same; struck = does.at.struck }))
                   | inr struck ↦ absurd (true_false (sym struck.struck ∙ free))
                 ]
             | inr there ↦ was.children j kid c d kj cj there
@@ -185,12 +185,12 @@ module _ {X : Type 0} (model : X → Model) where
           code = was.code;
           phase = was.phase;
           registers = was.registers;
-          each = length-set s.children i does.now ∙ was.each;
-          children = λ j kid c d kj cj dj. elim (got_set s.children i j does.now d dj) [
+          each = ap length does.at.rest ∙ length-set s.children i does.at.now ∙ was.each;
+          children = λ j kid c d kj cj dj. elim (got_set s.children i j does.at.now d (ap (λ xs. slice_get xs j) (sym does.at.rest) ∙ dj)) [
             | inl here ↦
-                let before = was.children j kid c does.was kj cj (ap (slice_get s.children) here.0 ∙ does.was_at) in
+                let before = was.children j kid c does.at.was kj cj (ap (slice_get s.children) here.0 ∙ does.at.was_at) in
                 subst (λ (w : Wrapped X). TakesEdges (model c.child).tree (model c.child).levels (levels_at levels kid.clocks) (model c.child).state (model w.child).state) (sym here.1)
-                (takes_kept (model c.child).tree (model c.child).levels (levels_at levels kid.clocks) (model c.child).state (model does.was.child).state (model does.now.child).state before does.updates.registers)
+                (takes_kept (model c.child).tree (model c.child).levels (levels_at levels kid.clocks) (model c.child).state (model does.at.was.child).state (model does.at.now.child).state before does.at.updates.registers)
             | inr there ↦ was.children j kid c d kj cj there
           ];
         })

@@ -1,7 +1,8 @@
 -- The events of a world: when each is enabled, and what it does.
-use Rattle.std.specs.Prelude.{◌≡◌, ◌≢◌, ℕ, ◌<◌, ◌≤◌, ⊤, Bool, true, false, Option, Some, None, List, [], ◌∷◌, slice_get}
+use Rattle.std.specs.Prelude.{◌≡◌, ◌≢◌, ℕ, ◌<◌, ◌≤◌, ⊤, Bool, true, false, Option, Some, None, List, [], ◌∷◌, slice_get, slice_set}
 use Rattle.bit_ops.specs.Lists.{words, widths}
 use Rattle.code_isa.specs.declared.machine.Kid.{Kid}
+use Rattle.code_isa.specs.declared.machine.Machine.{Machine}
 use Rattle.code_isa.specs.Tree.{held_of, words_at}
 use Rattle.code_isa.specs.Settled.{IsFilled}
 use Rattle.code_isa.specs.Traces.{sampled, levels_at}
@@ -10,7 +11,7 @@ use Rattle.sequence_select.specs.Shown.{Taken}
 use Rattle.wrapper_core.specs.declared.event.Event.{Event}
 use Rattle.wrapper_core.specs.declared.event.Event.TheVariants.{Own, Update, StrikeOwn, Strike, Commit}
 use Rattle.wrapper_core.specs.declared.wrapped.Wrapped.{Wrapped}
-use Rattle.wrapper_core.specs.Snapshot.{Phase, Calm, Striking, Snapshot, all_shown, with_slots, with_phase, with_child, committed}
+use Rattle.wrapper_core.specs.Snapshot.{Phase, Calm, Striking, Snapshot, all_shown, with_slots, with_phase, with_children, committed}
 
 -- ---- when an event is enabled
 
@@ -74,17 +75,22 @@ pub record TakesStrike (m : Model) (old new : Taken) : Type 0 where
   pub outs : words new.out_seq ≡ m.shown
   pub wide : widths new.out_seq ≡ widths old.out_seq
 
--- a child is updated with the words of the slots that it is joined to, and its outputs are taken
-pub record DoesUpdate {X : Type 0} (model : X → Model) (i : ℕ) (s z : Snapshot X) : Type 0 where
+-- one child of a list is updated with the words of the slots that it is joined to, and its outputs are taken
+pub record UpdatesAt {X : Type 0} (model : X → Model) (i : ℕ) (m : Machine) (slots : List ℕ) (old new : List (Wrapped X)) : Type 0 where
   pub kid : Kid
-  pub kid_at : slice_get s.code.kids i ≡ Some kid
+  pub kid_at : slice_get m.kids i ≡ Some kid
   pub was : Wrapped X
-  pub was_at : slice_get s.children i ≡ Some was
+  pub was_at : slice_get old i ≡ Some was
   pub now : Wrapped X
-  pub updates : Updates (words_at s.slots kid.ins) (model was.child) (model now.child)
+  pub updates : Updates (words_at slots kid.ins) (model was.child) (model now.child)
   pub takes : TakesUpdate (model now.child) was.wrapper now.wrapper
   pub struck : now.struck ≡ was.struck
-  pub rest : z ≡ with_child s i now
+  pub rest : new ≡ slice_set old i now
+
+-- so in a world, where nothing else changes
+pub record DoesUpdate {X : Type 0} (model : X → Model) (i : ℕ) (s z : Snapshot X) : Type 0 where
+  pub at : UpdatesAt model i s.code s.slots s.children z.children
+  pub rest : z ≡ with_children s z.children
 
 -- the registers whose edge occurs are sampled, by the edges between the levels before and those now
 pub record DoesStrikeOwn {X : Type 0} (s z : Snapshot X) : Type 0 where
@@ -92,17 +98,22 @@ pub record DoesStrikeOwn {X : Type 0} (s z : Snapshot X) : Type 0 where
   pub striking : s.phase ≡ Striking before None
   pub rest : z ≡ with_phase s (Striking before (Some (sampled before s.levels s.slots s.code.regs s.registers)))
 
--- a child is struck with the levels that it is joined to, and nothing of it is shown
-pub record DoesStrike {X : Type 0} (model : X → Model) (i : ℕ) (s z : Snapshot X) : Type 0 where
+-- one child of a list is struck with the levels that it is joined to, and nothing of it is shown
+pub record StrikesAt {X : Type 0} (model : X → Model) (i : ℕ) (m : Machine) (levels : List Bool) (old new : List (Wrapped X)) : Type 0 where
   pub kid : Kid
-  pub kid_at : slice_get s.code.kids i ≡ Some kid
+  pub kid_at : slice_get m.kids i ≡ Some kid
   pub was : Wrapped X
-  pub was_at : slice_get s.children i ≡ Some was
+  pub was_at : slice_get old i ≡ Some was
   pub now : Wrapped X
-  pub strikes : Strikes (levels_at s.levels kid.clocks) (model was.child) (model now.child)
+  pub strikes : Strikes (levels_at levels kid.clocks) (model was.child) (model now.child)
   pub wrapper : now.wrapper ≡ was.wrapper
   pub struck : now.struck ≡ true
-  pub rest : z ≡ with_child s i now
+  pub rest : new ≡ slice_set old i now
+
+-- so in a world, where nothing else changes
+pub record DoesStrike {X : Type 0} (model : X → Model) (i : ℕ) (s z : Snapshot X) : Type 0 where
+  pub at : StrikesAt model i s.code s.levels s.children z.children
+  pub rest : z ≡ with_children s z.children
 
 -- a child is published, and its outputs are taken
 pub record IsPublished {X : Type 0} (model : X → Model) (was now : Wrapped X) : Type 0 where

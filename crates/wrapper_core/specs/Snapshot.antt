@@ -1,5 +1,5 @@
 -- A world at one moment: what its events speak of.
-use Rattle.std.specs.Prelude.{ℕ, Bool, Option, None, List, [], ◌∷◌, map, slice_set}
+use Rattle.std.specs.Prelude.{ℕ, Bool, Option, None, List, [], ◌∷◌, map}
 use Rattle.std.specs.List.{flat_map}
 use Rattle.bit_ops.specs.Lists.{words}
 use Rattle.code_isa.specs.declared.machine.Machine.{Machine}
@@ -41,7 +41,7 @@ tree_in model s = node s.code (forest_of (map (λ c. (model c.child).tree) s.chi
 abbrev pub state_in : {X : Type 0} → (X → Model) → Snapshot X → State
 state_in model s = state s.held s.registers s.slots (states_of (map (λ c. (model c.child).state) s.children))
 
--- the same moment but for the slots, the held inputs, the phase, one child, or the marks
+-- the same moment but for the slots, the held inputs, the phase, the children, or the marks
 abbrev pub with_slots : {X : Type 0} → Snapshot X → List ℕ → Snapshot X
 with_slots s slots = record { code = s.code; held = s.held; registers = s.registers; slots = slots; levels = s.levels; phase = s.phase; children = s.children; visited = s.visited }
 
@@ -51,8 +51,8 @@ with_held s held = record { code = s.code; held = held; registers = s.registers;
 abbrev pub with_phase : {X : Type 0} → Snapshot X → Phase → Snapshot X
 with_phase s phase = record { code = s.code; held = s.held; registers = s.registers; slots = s.slots; levels = s.levels; phase = phase; children = s.children; visited = s.visited }
 
-abbrev pub with_child : {X : Type 0} → Snapshot X → ℕ → Wrapped X → Snapshot X
-with_child s i c = record { code = s.code; held = s.held; registers = s.registers; slots = s.slots; levels = s.levels; phase = s.phase; children = slice_set s.children i c; visited = s.visited }
+abbrev pub with_children : {X : Type 0} → Snapshot X → List (Wrapped X) → Snapshot X
+with_children s children = record { code = s.code; held = s.held; registers = s.registers; slots = s.slots; levels = s.levels; phase = s.phase; children = children; visited = s.visited }
 
 abbrev pub with_visited : {X : Type 0} → Snapshot X → List Bool → Snapshot X
 with_visited s visited = record { code = s.code; held = s.held; registers = s.registers; slots = s.slots; levels = s.levels; phase = s.phase; children = s.children; visited = visited }

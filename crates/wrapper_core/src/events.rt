@@ -1,65 +1,126 @@
 //! When an event of a world is enabled, what it does, and lists of events.
 
-ghost use Rattle.std.specs.Prelude.{◌≡◌, ◌<◌, ◌≤◌, ◌↔◌, ℕ, Bool, List, IsTrue, Some, length, take, slice_get};
+ghost use Rattle.std.specs.Prelude.{◌≡◌, ◌<◌, ◌≤◌, ◌↔◌, ℕ, Bool, true, List, IsTrue, Some, length, take, slice_get};
 ghost use Rattle.code_isa.specs.Settled.{IsSettled};
 ghost use Rattle.model_stage.specs.Order.{Picks};
 ghost use Rattle.wrapper_core.specs.declared.event.Event.{Event};
+ghost use Rattle.wrapper_core.specs.declared.wrapped.Wrapped.{Wrapped};
 ghost use Rattle.wrapper_core.specs.Snapshot.{Calm, Snapshot, with_levels, tree_in, state_in};
-ghost use Rattle.wrapper_core.specs.Events.{IsEnabled, Does, Schedule, IsQuiescent, HasRoom, HasRoomFor};
+ghost use Rattle.wrapper_core.specs.Events.{IsUpdatable, IsSamplable, IsStrikable, IsCommittable, IsEnabled, DoesOwn, DoesUpdate, DoesStrikeOwn, DoesStrike, DoesCommit, Does, Schedule, IsQuiescent, HasRoom, HasRoomFor};
 ghost use Rattle.wrapper_core.specs.Striking.{IsStriking, ShowsSame, TakesAllEdges};
 ghost use Rattle.wrapper_core.specs.World.{IsWorld, moment_of};
 
-use crate::buffer::{differs, gather, gather_levels};
+use crate::buffer::differs;
 use crate::event::Event;
+use crate::unit::{publish_all, strike_at, update_at};
 use crate::world::World;
 use model_stage::{Child, Order};
 
 impl<C: Child> World<C> {
-    /// Whether a child is there and holds other inputs than the slots that it is joined to.
-    fn is_stale(&self, i: usize) -> bool {
-        let kids = self.block.code.as_ref().machine().kids.as_slice();
-        if i >= kids.len() {
+    /// Whether no strike is under way.
+    fn is_calm(&self) -> bool
+        ensures { IsTrue result ↔ ((moment_of self.now).phase ≡ Calm) }
+    {
+        !self.striking
+    }
+
+    /// Whether a child is there and holds other inputs than the slots that it is joined to, while no strike is under way.
+    fn is_stale(&self, i: usize) -> bool
+        requires world { IsWorld C.model C.ready C.struck self.now }
+        ensures { IsTrue result ↔ IsUpdatable C.model (moment_of self.now) i }
+    {
+        if self.striking {
             return false;
         }
-        let places = kids[i].ins.as_slice();
+        if i >= self.children.len() {
+            return false;
+        }
+        let places = self.block.code.as_ref().machine().kids.as_slice()[i]
+            .ins
+            .as_slice();
         differs(&self.children[i].child, self.block.slots.as_slice(), places)
     }
 
-    /// Delivers the slots that a child is joined to, and takes its outputs.
-    fn update<F: Fn(u32, u32) -> u32 + Drop>(&mut self, i: usize, order: &Order<F>) {
-        let kid = &self.block.code.as_ref().machine().kids.as_slice()[i];
-        let buffer = &mut self.buffers[i];
-        gather(
-            &mut buffer.ins,
-            self.block.slots.as_slice(),
-            kid.ins.as_slice(),
+    /// Whether a strike is under way, and the registers are not sampled in it.
+    fn is_samplable(&self) -> bool
+        ensures { IsTrue result ↔ IsSamplable (moment_of self.now) }
+    {
+        self.striking && !self.sampled
+    }
+
+    /// Whether a strike is under way, and a child is there that is not struck in it.
+    fn is_strikable(&self, i: usize) -> bool
+        ensures { IsTrue result ↔ IsStrikable (moment_of self.now) i }
+    {
+        if !self.striking {
+            return false;
+        }
+        if i >= self.children.len() {
+            return false;
+        }
+        !self.children[i].struck
+    }
+
+    /// Whether all children are struck.
+    fn all_struck(&self) -> bool
+        ensures { IsTrue result ↔ ((i : ℕ) (c : Wrapped C) → slice_get self.now.children.items i ≡ Some c → c.struck ≡ true) }
+    {
+        for i in 0..self.children.len() {
+            if !self.children[i].struck {
+                return false;
+            }
+        }
+        true
+    }
+
+    /// Whether a strike is under way in which the registers are sampled and all children are struck.
+    fn is_committable(&self) -> bool
+        ensures { IsTrue result ↔ IsCommittable (moment_of self.now) }
+    {
+        if !self.striking {
+            return false;
+        }
+        if !self.sampled {
+            return false;
+        }
+        self.all_struck()
+    }
+
+    /// Runs the own code.
+    fn own(&mut self)
+        requires world { IsWorld C.model C.ready C.struck self.old }
+        requires calm { (moment_of self.old).phase ≡ Calm }
+        ensures world { IsWorld C.model C.ready C.struck self.new }
+        ensures does { DoesOwn (moment_of self.old) (moment_of self.new) }
+    {
+        self.block.own();
+    }
+
+    /// Delivers to a child the slots that it is joined to, and takes its outputs.
+    fn update<F: Fn(u32, u32) -> u32 + Drop>(&mut self, i: usize, order: &Order<F>)
+        requires world { IsWorld C.model C.ready C.struck self.old }
+        requires enabled { IsUpdatable C.model (moment_of self.old) i }
+        requires room { (c : Wrapped C) → slice_get (moment_of self.old).children i ≡ Some c → 0 < (C.model c.child).room }
+        requires order { Picks (F.pre order.now.f) (F.post order.now.f) }
+        ensures world { IsWorld C.model C.ready C.struck self.new }
+        ensures does { DoesUpdate C.model i (moment_of self.old) (moment_of self.new) }
+    {
+        update_at(
+            &mut self.block,
+            &mut self.children,
+            &mut self.buffers,
+            i,
+            order,
         );
-        self.children[i].update(buffer.ins.as_slice(), &mut buffer.outs, order);
-        self.show(i);
-    }
-
-    /// Strikes a child with the levels that it is joined to.
-    fn strike<F: Fn(u32, u32) -> u32 + Drop>(&mut self, i: usize, order: &Order<F>) {
-        let kid = &self.block.code.as_ref().machine().kids.as_slice()[i];
-        let levels = &mut self.buffers[i].levels;
-        gather_levels(levels, self.levels.as_slice(), kid.clocks.as_slice());
-        self.children[i].strike(levels.as_slice(), order);
-    }
-
-    /// Gives the slots of a child's outputs what its wrapper shows.
-    fn show(&mut self, i: usize) {
-        self.block
-            .place(self.buffers[i].first, self.children[i].wrapper.outputs());
-    }
-
-    /// Publishes a child, and takes its outputs.
-    fn publish(&mut self, i: usize) {
-        self.children[i].publish(&mut self.buffers[i].outs);
-        self.show(i);
     }
 
     /// Samples the registers whose edge occurs.
-    fn strike_own(&mut self) {
+    fn strike_own(&mut self)
+        requires world { IsWorld C.model C.ready C.struck self.old }
+        requires enabled { IsSamplable (moment_of self.old) }
+        ensures world { IsWorld C.model C.ready C.struck self.new }
+        ensures does { DoesStrikeOwn (moment_of self.old) (moment_of self.new) }
+    {
         let code = self.block.code.as_ref();
         self.sampling.sample(
             code,
@@ -70,13 +131,36 @@ impl<C: Child> World<C> {
         self.sampled = true;
     }
 
+    /// Strikes a child with the levels that it is joined to.
+    fn strike<F: Fn(u32, u32) -> u32 + Drop>(&mut self, i: usize, order: &Order<F>)
+        requires world { IsWorld C.model C.ready C.struck self.old }
+        requires enabled { IsStrikable (moment_of self.old) i }
+        requires room { (c : Wrapped C) → slice_get (moment_of self.old).children i ≡ Some c → 0 < (C.model c.child).room }
+        requires order { Picks (F.pre order.now.f) (F.post order.now.f) }
+        ensures world { IsWorld C.model C.ready C.struck self.new }
+        ensures does { DoesStrike C.model i (moment_of self.old) (moment_of self.new) }
+    {
+        let levels = self.levels.as_slice();
+        strike_at(
+            &self.block,
+            levels,
+            &mut self.children,
+            &mut self.buffers,
+            i,
+            order,
+        );
+    }
+
     /// Gives the registers what was sampled, and publishes all children.
-    fn commit(&mut self) {
+    fn commit(&mut self)
+        requires world { IsWorld C.model C.ready C.struck self.old }
+        requires enabled { IsCommittable (moment_of self.old) }
+        ensures world { IsWorld C.model C.ready C.struck self.new }
+        ensures does { DoesCommit C.model (moment_of self.old) (moment_of self.new) }
+    {
         let first = self.first_register();
         self.sampling.commit(&mut self.block, first);
-        for i in 0..self.children.len() {
-            self.publish(i);
-        }
+        publish_all(&mut self.block, &mut self.children, &mut self.buffers);
         self.sampled = false;
         self.striking = false;
     }
@@ -88,13 +172,11 @@ pub fn enabled<C: Child>(w: &World<C>, e: Event) -> bool
     ensures { IsTrue result ↔ IsEnabled C.model (moment_of w.now) e }
 {
     match e {
-        Event::Own => !w.striking,
-        Event::Update(i) => !w.striking && w.is_stale(i as usize),
-        Event::StrikeOwn => w.striking && !w.sampled,
-        Event::Strike(i) => w.striking
-            && (i as usize) < w.children.len()
-            && !w.children[i as usize].struck,
-        Event::Commit => w.striking && w.sampled && w.children.iter().all(|c| c.struck),
+        Event::Own => w.is_calm(),
+        Event::Update(i) => w.is_stale(i as usize),
+        Event::StrikeOwn => w.is_samplable(),
+        Event::Strike(i) => w.is_strikable(i as usize),
+        Event::Commit => w.is_committable(),
     }
 }
 
@@ -108,7 +190,7 @@ pub fn step<C: Child, F: Fn(u32, u32) -> u32 + Drop>(w: &mut World<C>, e: Event,
     ensures does { Does C.model e (moment_of w.old) (moment_of w.new) }
 {
     match e {
-        Event::Own => w.block.own(),
+        Event::Own => w.own(),
         Event::Update(i) => w.update(i as usize, order),
         Event::StrikeOwn => w.strike_own(),
         Event::Strike(i) => w.strike(i as usize, order),
@@ -133,12 +215,13 @@ pub fn run_events<C: Child, F: Fn(u32, u32) -> u32 + Drop>(
     ensures unchanged { (start : Snapshot C) (levels : List Bool) → IsQuiescent C.model start → moment_of w.old ≡ with_levels start levels → IsStriking (moment_of w.new) → ShowsSame C.model start (moment_of w.new) }
     ensures edges { (start : Snapshot C) (levels : List Bool) → IsQuiescent C.model start → moment_of w.old ≡ with_levels start levels → (moment_of w.new).phase ≡ Calm → TakesAllEdges C.model levels start (moment_of w.new) }
 {
-    for k in 0..events.len() {
-        let e = events[k];
-        if !enabled(w, e) {
-            return k;
+    let mut done = 0;
+    for e in events {
+        if !enabled(w, *e) {
+            return done;
         }
-        step(w, e, order);
+        step(w, *e, order);
+        done += 1;
     }
-    events.len()
+    done
 }

@@ -6,6 +6,7 @@ mod buffer;
 mod event;
 mod events;
 mod sampling;
+mod unit;
 mod world;
 mod wrapped;
 
