@@ -8,3 +8,5 @@ pub mod Giving
 pub mod Seats
 pub mod Cores
 pub mod Publishing
+pub mod Worlds
+pub mod Running

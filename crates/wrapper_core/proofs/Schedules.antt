@@ -43,7 +43,7 @@ mutual
       (takes_kept t (levels_at old kid.clocks) (levels_at new kid.clocks) s z y takes.0 same.0, all_kept trees kids old new ss zs ys takes.1 same.1)
 
 -- a phase is calm or not, and sampled or not
-calm_strikes : (before : List Bool) (s : Option (List ℕ)) → Calm ≡ Striking before s → ⊥
+pub calm_strikes : (before : List Bool) (s : Option (List ℕ)) → Calm ≡ Striking before s → ⊥
 calm_strikes before s e = let clash : ⊥ = cc in clash
 
 unsampled_sampled : (before after : List Bool) (ws : List ℕ) → Striking before None ≡ Striking after (Some ws) → ⊥
@@ -64,6 +64,19 @@ module _ {X : Type 0} (model : X → Model) where
     pub strikes : Strikes given (model c.child) (model d.child)
     pub wrapper : d.wrapper ≡ c.wrapper
     pub struck : d.struck ≡ true
+
+  pub published_at : (cs ds : List (Wrapped X)) (i : ℕ) (d : Wrapped X) → ArePublished model cs ds → slice_get ds i ≡ Some d → (c : Wrapped X) × (slice_get cs i ≡ Some c) × IsPublished model c d
+  published_at [] [] i d all at = absurd (none-some d at)
+  published_at [] (e ∷ ds) i d all at = absurd all
+  published_at (c ∷ cs) [] i d all at = absurd all
+  published_at (c ∷ cs) (e ∷ ds) zero d all at = (c, refl, subst (IsPublished model c) (same_Some e d at) all.0)
+  published_at (c ∷ cs) (e ∷ ds) (suc i) d all at = published_at cs ds i d all.1 at
+
+  pub published_each : (cs ds : List (Wrapped X)) → ArePublished model cs ds → length ds ≡ length cs
+  published_each [] [] all = refl
+  published_each [] (e ∷ ds) all = absurd all
+  published_each (c ∷ cs) [] all = absurd all
+  published_each (c ∷ cs) (e ∷ ds) all = ap suc (published_each cs ds all.1)
 
   module _ (levels : List Bool) (start : Snapshot X) where
     abbrev pub sampled_words : List ℕ
@@ -93,19 +106,6 @@ module _ {X : Type 0} (model : X → Model) where
     -- no two children of the start stand in one place
     found_same : (xs : List (Wrapped X)) (i : ℕ) (c d : Wrapped X) → slice_get xs i ≡ Some c → slice_get xs i ≡ Some d → c ≡ d
     found_same xs i c d ci di = same_Some c d (sym ci ∙ di)
-
-    published_at : (cs ds : List (Wrapped X)) (i : ℕ) (d : Wrapped X) → ArePublished model cs ds → slice_get ds i ≡ Some d → (c : Wrapped X) × (slice_get cs i ≡ Some c) × IsPublished model c d
-    published_at [] [] i d all at = absurd (none-some d at)
-    published_at [] (e ∷ ds) i d all at = absurd all
-    published_at (c ∷ cs) [] i d all at = absurd all
-    published_at (c ∷ cs) (e ∷ ds) zero d all at = (c, refl, subst (IsPublished model c) (same_Some e d at) all.0)
-    published_at (c ∷ cs) (e ∷ ds) (suc i) d all at = published_at cs ds i d all.1 at
-
-    published_each : (cs ds : List (Wrapped X)) → ArePublished model cs ds → length ds ≡ length cs
-    published_each [] [] all = refl
-    published_each [] (e ∷ ds) all = absurd all
-    published_each (c ∷ cs) [] all = absurd all
-    published_each (c ∷ cs) (e ∷ ds) all = ap suc (published_each cs ds all.1)
 
     struck_step : ((i : ℕ) (c : Wrapped X) → slice_get start.children i ≡ Some c → c.struck ≡ false) → (e : Event) (s z : Snapshot X) → StruckSince s → IsEnabled model s e → Does model e s z → StruckSince z ⊎ TakenSince z
     struck_step unstruck Own s z was enabled does =

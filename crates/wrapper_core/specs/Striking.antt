@@ -1,12 +1,13 @@
 -- A step of the clocks, from a quiescent moment on.
-use Rattle.std.specs.Prelude.{◌≡◌, ℕ, Bool, Option, List, map}
+use Rattle.std.specs.Prelude.{◌≡◌, ℕ, Bool, false, Option, Some, List, map, slice_get}
 use Rattle.bit_ops.specs.Lists.{words}
 use Rattle.code_isa.specs.Tree.{State, held_of}
 use Rattle.code_isa.specs.Traces.{TakesEdges}
 use Rattle.model_stage.specs.Model.{Model}
 use Rattle.sequence_select.specs.Shown.{Taken}
 use Rattle.wrapper_core.specs.declared.wrapped.Wrapped.{Wrapped}
-use Rattle.wrapper_core.specs.Snapshot.{Phase, Calm, Striking, Snapshot, tree_in, state_in}
+use Rattle.wrapper_core.specs.Snapshot.{Phase, Calm, Striking, Snapshot, tree_in, state_in, with_levels}
+use Rattle.wrapper_core.specs.Events.{IsQuiescent}
 
 -- a strike is under way
 pub record IsStriking {X : Type 0} (s : Snapshot X) : Type 0 where
@@ -26,3 +27,9 @@ pub record ShowsSame {X : Type 0} (model : X → Model) (s z : Snapshot X) : Typ
 -- all registers of the tree have taken the edges between the levels at the first moment and these, from the state at the first
 abbrev pub TakesAllEdges : {X : Type 0} → (X → Model) → List Bool → Snapshot X → Snapshot X → Type 0
 TakesAllEdges model levels s z = TakesEdges (tree_in model s) s.levels levels (state_in model s) (state_in model z)
+
+-- a strike with these levels begins at a quiescent moment, at which no child is struck
+pub record BeginsStrike {X : Type 0} (model : X → Model) (levels : List Bool) (start s : Snapshot X) : Type 0 where
+  pub quiescent : IsQuiescent model start
+  pub unstruck : (i : ℕ) (c : Wrapped X) → slice_get start.children i ≡ Some c → c.struck ≡ false
+  pub begins : s ≡ with_levels start levels

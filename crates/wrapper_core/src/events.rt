@@ -5,9 +5,9 @@ ghost use Rattle.code_isa.specs.Settled.{IsSettled};
 ghost use Rattle.model_stage.specs.Order.{Picks};
 ghost use Rattle.wrapper_core.specs.declared.event.Event.{Event};
 ghost use Rattle.wrapper_core.specs.declared.wrapped.Wrapped.{Wrapped};
-ghost use Rattle.wrapper_core.specs.Snapshot.{Calm, Snapshot, with_levels, tree_in, state_in};
+ghost use Rattle.wrapper_core.specs.Snapshot.{Calm, Snapshot, tree_in, state_in};
 ghost use Rattle.wrapper_core.specs.Events.{IsUpdatable, IsSamplable, IsStrikable, IsCommittable, IsEnabled, DoesOwn, DoesUpdate, DoesStrikeOwn, DoesStrike, DoesCommit, Does, Schedule, IsQuiescent, HasRoom, HasRoomFor};
-ghost use Rattle.wrapper_core.specs.Striking.{IsStriking, ShowsSame, TakesAllEdges};
+ghost use Rattle.wrapper_core.specs.Striking.{IsStriking, ShowsSame, TakesAllEdges, BeginsStrike};
 ghost use Rattle.wrapper_core.specs.World.{IsWorld, moment_of};
 
 use crate::buffer::differs;
@@ -212,8 +212,8 @@ pub fn run_events<C: Child, F: Fn(u32, u32) -> u32 + Drop>(
     ensures schedule { Schedule C.model (take result events.now.items) (moment_of w.old) (moment_of w.new) }
     ensures longest { (e : Event) → slice_get events.now.items result ≡ Some e → IsEnabled C.model (moment_of w.new) e → ⊥ }
     ensures settled { IsQuiescent C.model (moment_of w.new) → IsSettled (tree_in C.model (moment_of w.new)) (state_in C.model (moment_of w.new)) }
-    ensures unchanged { (start : Snapshot C) (levels : List Bool) → IsQuiescent C.model start → moment_of w.old ≡ with_levels start levels → IsStriking (moment_of w.new) → ShowsSame C.model start (moment_of w.new) }
-    ensures edges { (start : Snapshot C) (levels : List Bool) → IsQuiescent C.model start → moment_of w.old ≡ with_levels start levels → (moment_of w.new).phase ≡ Calm → TakesAllEdges C.model levels start (moment_of w.new) }
+    ensures unchanged { (start : Snapshot C) (levels : List Bool) → BeginsStrike C.model levels start (moment_of w.old) → IsStriking (moment_of w.new) → ShowsSame C.model start (moment_of w.new) }
+    ensures edges { (start : Snapshot C) (levels : List Bool) → BeginsStrike C.model levels start (moment_of w.old) → (moment_of w.new).phase ≡ Calm → TakesAllEdges C.model levels start (moment_of w.new) }
 {
     let mut done = 0;
     for e in events {

@@ -5,8 +5,9 @@ ghost use Rattle.bit_ops.specs.Lists.{words, widths};
 ghost use Rattle.code_isa.specs.Faces.{input_widths, output_widths, clock_count, input_count, output_count};
 ghost use Rattle.code_isa.specs.Slots.{first_register, first_kid_output};
 ghost use Rattle.code_isa.specs.Tree.{words_at};
-ghost use Rattle.wrapper_core.specs.Snapshot.{Calm, with_held, with_levels, with_visited};
+ghost use Rattle.wrapper_core.specs.Snapshot.{Calm, with_held, with_visited};
 ghost use Rattle.wrapper_core.specs.Events.{IsQuiescent};
+ghost use Rattle.wrapper_core.specs.Striking.{BeginsStrike};
 ghost use Rattle.wrapper_core.specs.World.{IsWorld, moment_of};
 ghost use Rattle.wrapper_core.specs.Start.{AreJoined, IsStart};
 
@@ -57,7 +58,7 @@ impl<C: Child> World<C> {
         requires quiescent { IsQuiescent C.model (moment_of self.old) }
         requires levels { length levels.now ≡ clock_count self.old.block.code.value.face }
         ensures world { IsWorld C.model C.ready C.struck self.new }
-        ensures set { moment_of self.new ≡ with_levels (moment_of self.old) levels.now }
+        ensures set { BeginsStrike C.model levels.now (moment_of self.old) (moment_of self.new) }
     {
         self.before
             .as_mut_slice()
