@@ -46,10 +46,10 @@ mutual
 pub calm_strikes : (before : List Bool) (s : Option (List ℕ)) → Calm ≡ Striking before s → ⊥
 calm_strikes before s e = let clash : ⊥ = cc in clash
 
-unsampled_sampled : (before after : List Bool) (ws : List ℕ) → Striking before None ≡ Striking after (Some ws) → ⊥
+pub unsampled_sampled : (before after : List Bool) (ws : List ℕ) → Striking before None ≡ Striking after (Some ws) → ⊥
 unsampled_sampled before after ws e = let clash : ⊥ = cc in clash
 
-sampled_parts : (before after : List Bool) (ws vs : List ℕ) → Striking before (Some ws) ≡ Striking after (Some vs) → ws ≡ vs
+pub sampled_parts : (before after : List Bool) (ws vs : List ℕ) → Striking before (Some ws) ≡ Striking after (Some vs) → ws ≡ vs
 sampled_parts before after ws vs e = cc
 
 before_parts : (before after : List Bool) (s z : Option (List ℕ)) → Striking before s ≡ Striking after z → before ≡ after

@@ -12,7 +12,8 @@ use Rattle.code_isa.specs.declared.machine.Reg.{Reg}
 use Rattle.code_isa.specs.declared.machine.Kid.{Kid}
 use Rattle.code_isa.specs.declared.machine.Machine.{Machine}
 use Rattle.code_isa.specs.Faces.{input_widths, clock_count, output_widths}
-use Rattle.code_isa.specs.Slots.{first_register, first_kid_output, first_instruction}
+use Rattle.code_isa.specs.Slots.{first_register, first_kid_output, first_instruction, slot_count}
+use Rattle.code_isa.specs.Values.{IsRun}
 use Rattle.code_isa.specs.Marks.{is_member, HasNone}
 use Rattle.code_isa.specs.Traces.{level_at, levels_at, sampled}
 use Rattle.code_isa.specs.Tree.{held_of, outs_of, words_at}
@@ -31,9 +32,9 @@ use Rattle.wrapper_core.specs.code.Blocks.{IsBlock, Keeps, placed}
 use Rattle.wrapper_core.specs.code.Samplings.{IsSampling, IsKept, registers_of_block, held_of_block}
 use Rattle.wrapper_core.specs.code.Cores.{IsSeated, IsBuffer, IsCore, KeepsOwn}
 use Rattle.wrapper_core.proofs.Lists.{take_placed, drop_placed, drop_placed_past, placed_middle}
-use Rattle.wrapper_core.proofs.Blocking.{given_size, words_each, widths_each, slots_room}
+use Rattle.wrapper_core.proofs.Blocking.{given_size, words_each, widths_each, slots_room, slots_size, true_is_not_false}
 use Rattle.wrapper_core.proofs.Clocking.{get_or_first}
-use Rattle.wrapper_core.proofs.Schedules.{got_set, calm_strikes, published_at, published_each}
+use Rattle.wrapper_core.proofs.Schedules.{got_set, calm_strikes, unsampled_sampled, sampled_parts, published_at, published_each}
 use Rattle.wrapper_core.proofs.Seats.{stands_ready}
 use Rattle.wrapper_core.proofs.Settling.{quiescent_settled}
 use Rattle.wrapper_core.proofs.Cores.{outputs_after}
@@ -47,6 +48,33 @@ phase_calm false before s e = refl
 pub phase_striking : (striking : Bool) (before other : List Bool) (s z : Option (List ℕ)) → (if striking then Striking before s else Calm) ≡ Striking other z → striking ≡ true
 phase_striking true before other s z e = refl
 phase_striking false before other s z e = absurd (calm_strikes other z e)
+
+pub calm_phase : (striking : Bool) (before : List Bool) (s : Option (List ℕ)) → striking ≡ false → (if striking then Striking before s else Calm) ≡ Calm
+calm_phase true before s e = absurd (true_is_not_false true refl e)
+calm_phase false before s e = refl
+
+-- of a phase whose registers are not sampled
+pub unsampled_parts : (striking sampled_yet : Bool) (before other : List Bool) (ws : List ℕ) → (if striking then Striking before (if sampled_yet then Some ws else None) else Calm) ≡ Striking other None →
+    (striking ≡ true) × (sampled_yet ≡ false) × ((if striking then Striking before (if sampled_yet then Some ws else None) else Calm) ≡ Striking before None)
+unsampled_parts true true before other ws e = absurd (unsampled_sampled other before ws (sym e))
+unsampled_parts true false before other ws e = (refl, refl, refl)
+unsampled_parts false sampled_yet before other ws e = absurd (calm_strikes other None e)
+
+-- of one whose registers are
+pub sampled_parts_of : (striking sampled_yet : Bool) (before other : List Bool) (ws vs : List ℕ) → (if striking then Striking before (if sampled_yet then Some ws else None) else Calm) ≡ Striking other (Some vs) →
+    (striking ≡ true) × (sampled_yet ≡ true) × (vs ≡ ws)
+sampled_parts_of true true before other ws vs e = (refl, refl, sym (sampled_parts before other ws vs e))
+sampled_parts_of true false before other ws vs e = absurd (unsampled_sampled before other vs e)
+sampled_parts_of false sampled_yet before other ws vs e = absurd (calm_strikes other (Some vs) e)
+
+-- the levels before do not depend on what is sampled
+pub before_same : (striking : Bool) (before levels : List Bool) (s z : Option (List ℕ)) → levels_before (if striking then Striking before s else Calm) levels ≡ levels_before (if striking then Striking before z else Calm) levels
+before_same true before levels s z = refl
+before_same false before levels s z = refl
+
+pub striking_phase : (striking : Bool) (before : List Bool) (s : Option (List ℕ)) → striking ≡ true → (if striking then Striking before s else Calm) ≡ Striking before s
+striking_phase true before s e = refl
+striking_phase false before s e = absurd (true_is_not_false false e refl)
 
 -- ---- moments
 
@@ -95,16 +123,16 @@ module _ {X : Type 0} (model : X → Model) (ready struck : X → Type 0) where
   abbrev pub AreAt : Machine → List Bool → List Bool → List (Wrapped X) → Type 0
   AreAt m before now cs = (i : ℕ) (kid : Kid) (c : Wrapped X) → slice_get m.kids i ≡ Some kid → slice_get cs i ≡ Some c → (model c.child).levels ≡ levels_at (levels_by before now c.struck) kid.clocks
 
-  pub world_moved : (w : World X) (n : Block) (cs bs : _) → IsWorld model ready struck w → n.code ≡ w.block.code → registers_of_block n ≡ registers_of_block w.block → IsCore model ready struck n cs.items bs.items →
-      AreAt w.block.code.value (levels_before (phase_of w) w.levels.items) w.levels.items cs.items →
-      (w.striking ≡ false → (i : ℕ) (c : Wrapped X) → slice_get cs.items i ≡ Some c → c.struck ≡ false) →
-      IsWorld model ready struck (record { block = n; sampling = w.sampling; levels = w.levels; before = w.before; striking = w.striking; sampled = w.sampled; children = cs; buffers = bs; visited = w.visited })
-  world_moved w n cs bs was same registers core joined calm =
-      let code : n.code.value ≡ w.block.code.value = ap (λ x. x.value) same in
+  pub world_moved : (w v : World X) → IsWorld model ready struck w → v.block.code ≡ w.block.code → registers_of_block v.block ≡ registers_of_block w.block → IsCore model ready struck v.block v.children.items v.buffers.items →
+      AreAt w.block.code.value (levels_before (phase_of w) w.levels.items) w.levels.items v.children.items →
+      (w.striking ≡ false → (i : ℕ) (c : Wrapped X) → slice_get v.children.items i ≡ Some c → c.struck ≡ false) →
+      IsWorld model ready struck (record { block = v.block; sampling = w.sampling; levels = w.levels; before = w.before; striking = w.striking; sampled = w.sampled; children = v.children; buffers = v.buffers; visited = w.visited })
+  world_moved w v was same registers core joined calm =
+      let code : v.block.code.value ≡ w.block.code.value = ap (λ x. x.value) same in
       record {
         core = core;
         joined = λ i kid c ki ci. joined i kid c (ap (λ (m : Machine). slice_get m.kids i) (sym code) ∙ ki) ci;
-        sampling = sampling_same w.block n w.sampling same registers was.sampling;
+        sampling = sampling_same w.block v.block w.sampling same registers was.sampling;
         unsampled = was.unsampled;
         levels_each = was.levels_each ∙ ap (λ (m : Machine). clock_count m.face) (sym code);
         before_each = was.before_each ∙ ap (λ (m : Machine). clock_count m.face) (sym code);
@@ -225,3 +253,23 @@ module _ {X : Type 0} (model : X → Model) (ready struck : X → Type 0) where
       (seat.shown_is ∙ now.shown, now.model.settled))
       (λ i c ci. get_or_first m.kids i (let e : i < length m.kids = omega (arith, slice_get_within w.children.items i c ci, was.core.children_each) in e))
       quiet
+
+  -- ---- what the own code does
+
+  pub own_does : (w : World X) (n : Block) → IsWorld model ready struck w → IsBlock n → n.code ≡ w.block.code → n.given ≡ w.block.given →
+      take (first_instruction w.block.code.value) (words n.slots.items) ≡ words w.block.given.items → IsRun w.block.code.value (words n.slots.items) →
+      IsFilled w.block.code.value (held_of_block w.block) (registers_of_block w.block) (words n.slots.items) (all_shown w.children.items)
+  own_does w n was block code given filled run = record {
+    sized = words_each n.slots.items ∙ sym (widths_each n.slots.items) ∙ ap length block.shape ∙ ap (λ x. slot_count x.value) code;
+    held_each = held_size_of w.block was.core.block;
+    registers_each = registers_size w.block was.core.block;
+    given_slots = filled ∙ given_parts w.block w.children.items w.buffers.items was.core;
+    run = run;
+  }
+
+  pub held_same : (b n : Block) → n.code ≡ b.code → n.given ≡ b.given → held_of_block n ≡ held_of_block b
+  held_same b n code given = ap (λ x. take (first_register x.value) (words n.given.items)) code ∙ ap (λ x. take (first_register b.code.value) (words x.items)) given
+
+  pub registers_same : (b n : Block) → n.code ≡ b.code → n.given ≡ b.given → registers_of_block n ≡ registers_of_block b
+  registers_same b n code given =
+      ap (λ x. take (length x.value.regs) (drop (first_register x.value) (words n.given.items))) code ∙ ap (λ x. take (length b.code.value.regs) (drop (first_register b.code.value) (words x.items))) given

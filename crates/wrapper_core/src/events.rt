@@ -8,6 +8,7 @@ ghost use Rattle.wrapper_core.specs.declared.wrapped.Wrapped.{Wrapped};
 ghost use Rattle.wrapper_core.specs.Snapshot.{Calm, Snapshot, tree_in, state_in};
 ghost use Rattle.wrapper_core.specs.Events.{IsUpdatable, IsSamplable, IsStrikable, IsCommittable, IsEnabled, DoesOwn, DoesUpdate, DoesStrikeOwn, DoesStrike, DoesCommit, Does, Schedule, IsQuiescent, HasRoom, HasRoomFor};
 ghost use Rattle.wrapper_core.specs.Striking.{IsStriking, ShowsSame, TakesAllEdges, BeginsStrike};
+ghost use Rattle.wrapper_core.specs.code.Cores.{HasUnstruck};
 ghost use Rattle.wrapper_core.specs.World.{IsWorld, moment_of};
 
 use crate::buffer::differs;
@@ -48,17 +49,21 @@ impl<C: Child> World<C> {
         self.striking && !self.sampled
     }
 
-    /// Whether a strike is under way, and a child is there that is not struck in it.
-    fn is_strikable(&self, i: usize) -> bool
-        ensures { IsTrue result ↔ IsStrikable (moment_of self.now) i }
+    /// Whether a child is there that is not struck.
+    fn is_unstruck(&self, i: usize) -> bool
+        ensures { IsTrue result ↔ HasUnstruck self.now.children.items i }
     {
-        if !self.striking {
-            return false;
-        }
         if i >= self.children.len() {
             return false;
         }
         !self.children[i].struck
+    }
+
+    /// Whether a strike is under way, and a child is there that is not struck in it.
+    fn is_strikable(&self, i: usize) -> bool
+        ensures { IsTrue result ↔ IsStrikable (moment_of self.now) i }
+    {
+        self.striking && self.is_unstruck(i)
     }
 
     /// Whether all children are struck.
@@ -217,11 +222,12 @@ pub fn run_events<C: Child, F: Fn(u32, u32) -> u32 + Drop>(
 {
     let mut done = 0;
     for e in events {
-        if !enabled(w, *e) {
+        if enabled(w, *e) {
+            step(w, *e, order);
+            done += 1;
+        } else {
             return done;
         }
-        step(w, *e, order);
-        done += 1;
     }
     done
 }

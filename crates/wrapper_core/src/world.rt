@@ -21,7 +21,7 @@ use model_stage::Child;
 use sequence_select::Wrapper;
 use std::alloc::{AllocError, Global};
 use std::rc::Rc;
-use sv_base::Class;
+use sv_base::{Class, Face};
 
 /// A machine with its children behind their wrappers.
 #[derive(Drop)]
@@ -154,14 +154,14 @@ impl<C: Child> World<C> {
         requires world { IsWorld C.model C.ready C.struck self.now }
         ensures { result ≡ first_register self.now.block.code.value }
     {
-        first_of_registers(self.block.code.as_ref().machine())
+        value_count(&self.block.code.as_ref().machine().face)
     }
 }
 
-/// How many data inputs a machine has, which is the slot of its first register.
-fn first_of_registers(m: &Machine) -> usize
-    ensures { result ≡ first_register m.now }
+/// How many data inputs a face has.
+fn value_count(face: &Face) -> usize
+    ensures { result ≡ input_count face.now }
 {
-    let ports = m.face.ports.as_slice().iter();
+    let ports = face.ports.as_slice().iter();
     ports.filter(|p| matches!(p.class, Class::Value)).count()
 }

@@ -74,3 +74,9 @@ pub record PublishesAt {X : Type 0} (model : X → Model) (i : ℕ) (old new : L
   pub now : Wrapped X
   pub published : IsPublished model was now
   pub rest : new ≡ slice_set old i now
+
+-- a child is there that is not struck
+pub record HasUnstruck {X : Type 0} (children : List (Wrapped X)) (i : ℕ) : Type 0 where
+  pub was : Wrapped X
+  pub was_at : slice_get children i ≡ Some was
+  pub unstruck : was.struck ≡ false
