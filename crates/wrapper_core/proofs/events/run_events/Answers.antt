@@ -33,7 +33,7 @@ loop-e-preserved g c =
       world = c.step.ensures.world;
       done = let next : c.loop-e.done + 1 ≡ k + 1 = omega (arith, c.loop-e.invariant.done) in next;
       schedule = subst (λ es. Schedule model es (moment_of c.args.w.now) (moment_of c.step.new.w)) (sym more)
-      (schedule_push model (take k events) e (moment_of c.args.w.now) (moment_of c.loop-e.w) (moment_of c.step.new.w) c.loop-e.invariant.schedule (c.if-enabled.ensures.0 refl) c.step.ensures.does);
+          (schedule_push model (take k events) e (moment_of c.args.w.now) (moment_of c.loop-e.w) (moment_of c.step.new.w) c.loop-e.invariant.schedule (c.if-enabled.ensures.0 refl) c.step.ensures.does);
       room = room_kept model e (length events - (k + 1)) (moment_of c.loop-e.w) (moment_of c.step.new.w) (subst (λ n. HasRoom model n (moment_of c.loop-e.w)) left c.loop-e.invariant.room) c.step.ensures.does;
     }
 
