@@ -1,5 +1,5 @@
 -- A block whose slots are given other values, and get them.
-use Rattle.std.proofs.Common.{◌≡◌, ◌≢◌, ℕ, zero, suc, ◌+◌, ◌-◌, ◌<◌, ◌≤◌, inl, inr, Bool, true, false, List, [], ◌∷◌, ◌++◌, length, map, take, drop, get_or, set, replicate, refl, sym, ◌∙◌, ap, subst, arith}
+use Rattle.std.proofs.Common.{◌≡◌, ℕ, zero, suc, ◌+◌, ◌<◌, ◌≤◌, inl, inr, Bool, true, false, List, [], ◌∷◌, ◌++◌, length, map, take, drop, get_or, set, replicate, refl, sym, ◌∙◌, ap, subst, arith}
 use Rattle.std.specs.Prelude.{slice_index, slice_get, Some, All}
 use Rattle.std.specs.List.{flat_map}
 use Rattle.code_isa.specs.declared.machine.Reg.{Reg}
@@ -18,8 +18,8 @@ use Rattle.code_isa.specs.Marks.{is_member}
 use Rattle.wrapper_core.specs.declared.block.Block.{Block}
 use Rattle.std.proofs.lemmas.Option.{slice_get-get_or, slice_get_within}
 use Rattle.code_isa.specs.Activity.{HaveValuesBut}
-use Rattle.wrapper_core.specs.code.Blocks.{IsBlock, IsCopied, HasAll, Keeps, placed}
-use Rattle.wrapper_core.proofs.Lists.{placed_more, filled_more}
+use Rattle.wrapper_core.specs.code.Blocks.{IsBlock, IsCopied, HasAll, placed}
+use Rattle.wrapper_core.proofs.Lists.{placed_more}
 
 -- the word of a value that was read
 pub read_word : (xs : List Bits) (s : ℕ) (b : Bits) → s < length xs → b ≡ get_or xs s b → slice_index (words xs) s ≡ b.word

@@ -1,9 +1,9 @@
 -- Values copied one by one, and compared.
-use Rattle.std.proofs.Common.{◌≡◌, ◌≢◌, ℕ, ◌+◌, ◌<◌, ◌≤◌, List, length, map, take, get_or, set, refl, sym, ◌∙◌, ap, subst, arith}
+use Rattle.std.proofs.Common.{◌≡◌, ℕ, ◌+◌, ◌<◌, ◌≤◌, List, length, map, take, get_or, set, sym, ◌∙◌, ap, arith}
 use Rattle.std.specs.Prelude.{slice_index, slice_get, Some}
-use Rattle.std.proofs.lemmas.List.{take_all, take_more_same, length-map, length-set, map-set, get_or-map}
+use Rattle.std.proofs.lemmas.List.{take_all, length-map, map-set, get_or-map}
 use Rattle.std.proofs.lemmas.Option.{slice_get_within, get_or_from_slice_get}
-use Rattle.code_isa.specs.Faces.{input_count, input_widths, ports_of}
+use Rattle.code_isa.specs.Faces.{input_count, ports_of}
 use Rattle.sv_base.specs.Classes.{is_value}
 use Rattle.sv_base.specs.declared.face.Port.{Port}
 use Rattle.bit_ops.specs.declared.value.Bits.{Bits}

@@ -1,8 +1,8 @@
 -- A block and its children, when one child has made a call.
-use Rattle.std.proofs.Common.{◌≡◌, ◌≢◌, ℕ, zero, suc, ◌+◌, ◌-◌, ◌<◌, ◌≤◌, ◌⊎◌, inl, inr, Bool, true, false, List, [], ◌∷◌, ◌++◌, length, map, take, drop, get_or, set, refl, sym, ◌∙◌, ap, subst, arith}
-use Rattle.std.specs.Prelude.{slice_get, slice_index, Some, None, All}
+use Rattle.std.proofs.Common.{◌≡◌, ℕ, zero, suc, ◌+◌, ◌<◌, ◌≤◌, inl, inr, List, [], ◌∷◌, ◌++◌, length, map, take, drop, get_or, set, refl, sym, ◌∙◌, ap, subst, arith}
+use Rattle.std.specs.Prelude.{slice_get, Some}
 use Rattle.std.specs.List.{flat_map}
-use Rattle.std.proofs.lemmas.List.{length-set, length-append, length-map, length-take-le, length-drop, take_all, take_more, take_more_set, drop-drop, drop_at, get_or-map, get_or-set_same}
+use Rattle.std.proofs.lemmas.List.{length-set, length-append, length-map, length-drop, take_all, drop-drop, drop_at, get_or-set_same}
 use Rattle.std.proofs.lemmas.Option.{none-some, same_Some, slice_get_within, get_or_from_slice_get, slice_get-get_or}
 use Rattle.bit_ops.specs.Lists.{words, widths}
 use Rattle.bit_ops.specs.declared.value.Bits.{Bits}
@@ -19,9 +19,7 @@ use Rattle.wrapper_core.specs.declared.block.Block.{Block}
 use Rattle.wrapper_core.specs.declared.buffer.Buffer.{Buffer}
 use Rattle.wrapper_core.specs.declared.wrapped.Wrapped.{Wrapped}
 use Rattle.wrapper_core.specs.Snapshot.{all_shown}
-use Rattle.wrapper_core.specs.Events.{IsPublished, ArePublished}
 use Rattle.wrapper_core.specs.code.Blocks.{IsBlock, Keeps, placed}
-use Rattle.wrapper_core.specs.code.Samplings.{held_of_block, registers_of_block}
 use Rattle.wrapper_core.specs.code.Cores.{IsSeated, HasBufferRoom, IsBuffer, IsCore, KeepsOwn}
 use Rattle.wrapper_core.proofs.Lists.{placed_piece, piece, pieces_size, take_placed, drop_placed_past}
 use Rattle.wrapper_core.proofs.Blocking.{given_size, words_each, widths_each, all_at}

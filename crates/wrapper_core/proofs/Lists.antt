@@ -1,6 +1,6 @@
 -- Lists that are written from a position on, and lists made of pieces.
-use Rattle.std.proofs.Common.{◌≡◌, ℕ, zero, suc, ◌+◌, ◌-◌, ◌<◌, ◌≤◌, List, [], ◌∷◌, ◌++◌, length, map, take, drop, get_or, set, refl, sym, ◌∙◌, ap, subst, arith, append_assoc}
-use Rattle.std.specs.Prelude.{slice_get, Some, None}
+use Rattle.std.proofs.Common.{◌≡◌, ℕ, zero, suc, ◌+◌, ◌-◌, ◌<◌, ◌≤◌, List, [], ◌∷◌, ◌++◌, length, take, drop, get_or, set, refl, sym, ◌∙◌, ap, arith, append_assoc}
+use Rattle.std.specs.Prelude.{slice_get, Some}
 use Rattle.std.specs.List.{flat_map}
 use Rattle.std.proofs.lemmas.List.{take_more_set, take_more, length-take-le, take-append-le, take-take, drop-drop, drop_at, drop-append-le, drop-take, drop_more, set_at, length-append, length-drop, take_at, append-nil, take-append-drop}
 use Rattle.std.proofs.Math.Seq.{take-append-add, drop-append-add}

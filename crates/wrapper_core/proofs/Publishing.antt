@@ -1,12 +1,11 @@
 -- Children that are published one by one.
-use Rattle.std.proofs.Common.{◌≡◌, ◌≢◌, ℕ, zero, suc, ◌+◌, ◌<◌, ◌≤◌, inl, inr, Bool, true, List, [], ◌∷◌, ◌++◌, length, take, get_or, set, refl, sym, ◌∙◌, ap, subst, arith}
-use Rattle.std.specs.Prelude.{slice_get, Some, None}
+use Rattle.std.proofs.Common.{◌≡◌, ◌≢◌, ℕ, zero, suc, ◌+◌, ◌<◌, ◌≤◌, List, [], ◌∷◌, ◌++◌, length, take, set, refl, sym, ◌∙◌, ap, subst, arith}
+use Rattle.std.specs.Prelude.{slice_get, Some}
 use Rattle.std.proofs.lemmas.List.{length-set, take_more, take_more_set, take_all}
-use Rattle.std.proofs.lemmas.Option.{none-some, same_Some, slice_get_within, get_or_from_slice_get}
+use Rattle.std.proofs.lemmas.Option.{slice_get_within, get_or_from_slice_get}
 use Rattle.model_stage.specs.Model.{Model}
 use Rattle.wrapper_core.specs.declared.wrapped.Wrapped.{Wrapped}
 use Rattle.wrapper_core.specs.Events.{IsPublished, ArePublished}
-use Rattle.wrapper_core.specs.code.Blocks.{Keeps}
 use Rattle.wrapper_core.specs.code.Cores.{KeepsOwn, PublishesAt}
 use Rattle.wrapper_core.specs.declared.block.Block.{Block}
 

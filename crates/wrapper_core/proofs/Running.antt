@@ -1,17 +1,15 @@
 -- Schedules that go on, the room that they take, and what they leave.
-use Rattle.std.proofs.Common.{◌≡◌, ◌≢◌, ℕ, zero, suc, ◌+◌, ◌-◌, ◌<◌, ◌≤◌, ◌⊎◌, inl, inr, Bool, true, false, List, [], ◌∷◌, ◌++◌, length, map, take, get_or, set, refl, sym, ◌∙◌, ap, subst, arith}
-use Rattle.std.specs.Prelude.{slice_get, Option, Some, None, if◌then◌else◌}
-use Rattle.std.proofs.lemmas.Option.{same_Some, slice_get_within}
+use Rattle.std.proofs.Common.{◌≡◌, ℕ, ◌+◌, ◌<◌, ◌≤◌, ◌⊎◌, inl, inr, Bool, List, [], ◌∷◌, ◌++◌, length, refl, sym, ◌∙◌, ap, subst, arith}
+use Rattle.std.specs.Prelude.{slice_get, Some, None}
 use Rattle.code_isa.specs.declared.machine.Kid.{Kid}
 use Rattle.code_isa.specs.Traces.{levels_at}
-use Rattle.bit_ops.specs.Lists.{words}
 use Rattle.model_stage.specs.Model.{Model}
 use Rattle.wrapper_core.specs.declared.event.Event.{Event}
 use Rattle.wrapper_core.specs.declared.event.Event.TheVariants.{Own, Update, StrikeOwn, Strike, Commit}
 use Rattle.wrapper_core.specs.declared.wrapped.Wrapped.{Wrapped}
 use Rattle.wrapper_core.specs.declared.world.World.{World}
-use Rattle.wrapper_core.specs.Snapshot.{Phase, Calm, Striking, Snapshot, with_levels}
-use Rattle.wrapper_core.specs.Events.{IsEnabled, Does, Goes, Schedule, HasRoom, HasRoomFor}
+use Rattle.wrapper_core.specs.Snapshot.{Calm, Striking, Snapshot}
+use Rattle.wrapper_core.specs.Events.{IsEnabled, Does, Schedule, HasRoom, HasRoomFor}
 use Rattle.wrapper_core.specs.Striking.{IsStriking, ShowsSame, TakesAllEdges, BeginsStrike}
 use Rattle.wrapper_core.specs.World.{phase_of, moment_of, levels_before, levels_by, IsWorld}
 use Rattle.wrapper_core.proofs.Schedules.{got_set, published_at, StruckSince, TakenSince, struck_start, struck_all, since_shows, since_takes, since_calm, since_striking}

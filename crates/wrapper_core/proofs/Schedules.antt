@@ -1,5 +1,5 @@
 -- What stays and what changes in a strike, whatever the order of its events.
-use Rattle.std.proofs.Common.{◌≡◌, ◌≢◌, ℕ, zero, suc, ◌+◌, ◌<◌, ◌≤◌, ◌⊎◌, inl, inr, Bool, true, false, List, [], ◌∷◌, length, map, get_or, set, refl, sym, ◌∙◌, ap, subst, arith}
+use Rattle.std.proofs.Common.{◌≡◌, ℕ, zero, suc, ◌⊎◌, inl, inr, Bool, true, false, List, [], ◌∷◌, length, map, set, refl, sym, ◌∙◌, ap, subst, arith}
 use Rattle.std.specs.Prelude.{slice_get, Option, Some, None}
 use Rattle.std.proofs.lemmas.List.{length-set}
 use Rattle.std.proofs.lemmas.Option.{none-some, same_Some}
@@ -8,11 +8,11 @@ use Rattle.code_isa.specs.declared.machine.Machine.{Machine}
 use Rattle.code_isa.specs.Tree.{Tree, node, Forest, no_tree, tree_and, forest_of, State, state, States, no_state, state_and, held_of}
 use Rattle.code_isa.specs.Settled.{HaveSameRegisters, HaveAllSame}
 use Rattle.code_isa.specs.Traces.{sampled, levels_at, TakesEdges, AllTakeEdges}
-use Rattle.model_stage.specs.Model.{Model, Strikes, Publishes}
+use Rattle.model_stage.specs.Model.{Model, Strikes}
 use Rattle.wrapper_core.specs.declared.event.Event.{Event}
 use Rattle.wrapper_core.specs.declared.event.Event.TheVariants.{Own, Update, StrikeOwn, Strike, Commit}
 use Rattle.wrapper_core.specs.declared.wrapped.Wrapped.{Wrapped}
-use Rattle.wrapper_core.specs.Snapshot.{Phase, Calm, Striking, Snapshot, states_of, tree_in, state_in, with_levels}
+use Rattle.wrapper_core.specs.Snapshot.{Calm, Striking, Snapshot, states_of, with_levels}
 use Rattle.wrapper_core.specs.Events.{IsEnabled, Does, Schedule, IsPublished, ArePublished}
 use Rattle.wrapper_core.specs.Striking.{IsStriking, ShowsSame, TakesAllEdges}
 

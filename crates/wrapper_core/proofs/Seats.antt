@@ -1,16 +1,14 @@
 -- A child behind its wrapper, before and after a call.
-use Rattle.std.proofs.Common.{◌≡◌, ℕ, ◌+◌, ◌<◌, ◌≤◌, Bool, true, false, cond, List, length, map, refl, sym, ◌∙◌, ap, subst, arith}
+use Rattle.std.proofs.Common.{◌≡◌, ℕ, ◌<◌, ◌≤◌, Bool, true, false, List, sym, ◌∙◌, ap, subst, arith}
 use Rattle.std.specs.Prelude.{nat_lt}
 use Rattle.std.proofs.lemmas.Bool.{cond_both}
 use Rattle.bit_ops.specs.Lists.{words, widths}
-use Rattle.bit_ops.specs.declared.value.Bits.{Bits}
 use Rattle.code_isa.specs.declared.machine.Kid.{Kid}
-use Rattle.code_isa.specs.Faces.{output_widths}
 use Rattle.code_isa.specs.Tree.{Tree, top_of}
-use Rattle.model_stage.specs.Model.{Model, Updates, Strikes, Publishes}
+use Rattle.model_stage.specs.Model.{Model, Updates, Strikes}
 use Rattle.sequence_select.specs.Shown.{Taken, shown}
 use Rattle.wrapper_core.specs.declared.wrapped.Wrapped.{Wrapped}
-use Rattle.wrapper_core.specs.Events.{TakesUpdate, TakesStrike, IsPublished}
+use Rattle.wrapper_core.specs.Events.{TakesUpdate, IsPublished}
 use Rattle.wrapper_core.specs.code.Cores.{StandsReady, StandsStruck, Stands, IsSeated}
 
 -- what is shown has the widths of both lists

@@ -1,17 +1,16 @@
 -- Where a world is quiescent, it is in the settled state of its tree.
-use Rattle.std.proofs.Common.{◌≡◌, ◌≢◌, ℕ, zero, suc, ◌+◌, ◌<◌, ◌≤◌, ◌⊎◌, inl, inr, List, [], ◌∷◌, ◌++◌, length, map, drop, get_or, set, refl, sym, ◌∙◌, ap, subst, arith}
-use Rattle.std.specs.Prelude.{slice_get, Some, None}
+use Rattle.std.proofs.Common.{◌≡◌, ◌≢◌, ℕ, suc, ◌⊎◌, inl, inr, List, [], ◌∷◌, ◌++◌, length, map, drop, get_or, refl, ◌∙◌, ap, subst, arith}
+use Rattle.std.specs.Prelude.{slice_get, Some}
 use Rattle.std.proofs.lemmas.Bool.{cases_eq}
-use Rattle.std.proofs.lemmas.Option.{none-some, same_Some}
 use Rattle.bit_ops.specs.Lists.{words}
 use Rattle.code_isa.specs.declared.machine.Kid.{Kid}
-use Rattle.code_isa.specs.Tree.{Tree, node, forest_of, held_of, outs_of, outs_of_all, words_at}
+use Rattle.code_isa.specs.Tree.{forest_of, held_of, outs_of, outs_of_all, words_at}
 use Rattle.code_isa.specs.Settled.{IsFilled, IsSettled, AreSettled}
 use Rattle.model_stage.specs.Model.{Model}
 use Rattle.sequence_select.specs.Shown.{shown}
 use Rattle.wrapper_core.specs.declared.wrapped.Wrapped.{Wrapped}
-use Rattle.wrapper_core.specs.Snapshot.{Calm, Snapshot, all_shown, states_of, tree_in, state_in}
-use Rattle.wrapper_core.specs.Events.{IsUpdatable, IsQuiescent}
+use Rattle.wrapper_core.specs.Snapshot.{Snapshot, all_shown, states_of, tree_in, state_in}
+use Rattle.wrapper_core.specs.Events.{IsQuiescent}
 
 -- two lists of numbers are equal or not
 pub cases_list : (xs ys : List ℕ) → (xs ≡ ys) ⊎ (xs ≢ ys)

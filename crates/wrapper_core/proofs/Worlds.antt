@@ -1,40 +1,34 @@
 -- What is known of a world, before and after an event.
-use Rattle.std.proofs.Common.{◌≡◌, ◌≢◌, ℕ, zero, suc, ◌+◌, ◌-◌, ◌<◌, ◌≤◌, ◌⊎◌, inl, inr, Bool, true, false, cond, List, [], ◌∷◌, ◌++◌, length, map, take, drop, get_or, set, refl, sym, ◌∙◌, ap, subst, arith}
-use Rattle.std.specs.Prelude.{slice_get, slice_index, Option, Some, None, if◌then◌else◌}
-use Rattle.std.specs.Vec.{with_item}
-use Rattle.std.specs.List.{flat_map}
-use Rattle.std.proofs.lemmas.Bool.{cond_both}
-use Rattle.std.proofs.lemmas.List.{length-set, length-take-le, length-drop, length-append, length-map, ext_get_or, take-take, drop-drop, take-append-drop, append_assoc}
+use Rattle.std.proofs.Common.{◌≡◌, ℕ, ◌<◌, ◌≤◌, inl, inr, Bool, true, false, List, ◌++◌, length, take, drop, refl, sym, ◌∙◌, ap, subst, arith}
+use Rattle.std.specs.Prelude.{slice_get, Option, Some, None, if◌then◌else◌}
+use Rattle.std.proofs.lemmas.List.{length-take-le, length-drop, length-map, ext_get_or, drop-drop, take-append-drop, append_assoc}
 use Rattle.std.proofs.lemmas.Option.{same_Some, slice_get_within}
-use Rattle.bit_ops.specs.Lists.{words, widths}
-use Rattle.bit_ops.specs.declared.value.Bits.{Bits}
+use Rattle.bit_ops.specs.Lists.{words}
 use Rattle.code_isa.specs.declared.machine.Reg.{Reg}
 use Rattle.code_isa.specs.declared.machine.Kid.{Kid}
 use Rattle.code_isa.specs.declared.machine.Machine.{Machine}
-use Rattle.code_isa.specs.Faces.{input_widths, clock_count, output_widths}
+use Rattle.code_isa.specs.Faces.{input_widths, clock_count}
 use Rattle.code_isa.specs.Slots.{first_register, first_kid_output, first_instruction, slot_count}
 use Rattle.code_isa.specs.Values.{IsRun}
-use Rattle.code_isa.specs.Marks.{is_member, HasNone}
-use Rattle.code_isa.specs.Traces.{level_at, levels_at, sampled}
-use Rattle.code_isa.specs.Tree.{held_of, outs_of, words_at}
+use Rattle.code_isa.specs.Marks.{HasNone}
+use Rattle.code_isa.specs.Traces.{levels_at}
 use Rattle.code_isa.specs.Settled.{IsFilled, IsSettled}
 use Rattle.model_stage.specs.Model.{Model, IsReady}
-use Rattle.sequence_select.specs.Shown.{Taken, shown}
 use Rattle.wrapper_core.specs.declared.block.Block.{Block}
 use Rattle.wrapper_core.specs.declared.buffer.Buffer.{Buffer}
 use Rattle.wrapper_core.specs.declared.sampling.Sampling.{Sampling}
 use Rattle.wrapper_core.specs.declared.wrapped.Wrapped.{Wrapped}
 use Rattle.wrapper_core.specs.declared.world.World.{World}
-use Rattle.wrapper_core.specs.Snapshot.{Phase, Calm, Striking, Snapshot, all_shown, tree_in, state_in, with_slots, with_held, with_phase, with_children, with_levels, committed}
-use Rattle.wrapper_core.specs.Events.{UpdatesAt, StrikesAt, IsPublished, ArePublished, IsQuiescent, DoesOwn}
+use Rattle.wrapper_core.specs.Snapshot.{Phase, Calm, Striking, Snapshot, all_shown, tree_in, state_in}
+use Rattle.wrapper_core.specs.Events.{UpdatesAt, StrikesAt, ArePublished, IsQuiescent}
 use Rattle.wrapper_core.specs.World.{phase_of, moment_of, levels_before, levels_by, IsWorld}
 use Rattle.wrapper_core.specs.code.Blocks.{IsBlock, Keeps, placed}
-use Rattle.wrapper_core.specs.code.Samplings.{IsSampling, IsKept, registers_of_block, held_of_block}
-use Rattle.wrapper_core.specs.code.Cores.{IsSeated, IsBuffer, IsCore, KeepsOwn}
-use Rattle.wrapper_core.proofs.Lists.{take_placed, drop_placed, drop_placed_past, placed_middle}
-use Rattle.wrapper_core.proofs.Blocking.{given_size, words_each, widths_each, slots_room, slots_size, true_is_not_false}
+use Rattle.wrapper_core.specs.code.Samplings.{IsSampling, registers_of_block, held_of_block}
+use Rattle.wrapper_core.specs.code.Cores.{IsBuffer, IsCore}
+use Rattle.wrapper_core.proofs.Lists.{take_placed, drop_placed, placed_middle}
+use Rattle.wrapper_core.proofs.Blocking.{given_size, words_each, widths_each, true_is_not_false}
 use Rattle.wrapper_core.proofs.Clocking.{get_or_first}
-use Rattle.wrapper_core.proofs.Schedules.{got_set, calm_strikes, unsampled_sampled, sampled_parts, published_at, published_each}
+use Rattle.wrapper_core.proofs.Schedules.{got_set, calm_strikes, unsampled_sampled, sampled_parts, published_at}
 use Rattle.wrapper_core.proofs.Seats.{stands_ready}
 use Rattle.wrapper_core.proofs.Settling.{quiescent_settled}
 use Rattle.wrapper_core.proofs.Cores.{outputs_after}

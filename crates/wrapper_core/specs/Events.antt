@@ -11,7 +11,7 @@ use Rattle.sequence_select.specs.Shown.{Taken}
 use Rattle.wrapper_core.specs.declared.event.Event.{Event}
 use Rattle.wrapper_core.specs.declared.event.Event.TheVariants.{Own, Update, StrikeOwn, Strike, Commit}
 use Rattle.wrapper_core.specs.declared.wrapped.Wrapped.{Wrapped}
-use Rattle.wrapper_core.specs.Snapshot.{Phase, Calm, Striking, Snapshot, all_shown, with_slots, with_phase, with_children, committed}
+use Rattle.wrapper_core.specs.Snapshot.{Calm, Striking, Snapshot, all_shown, with_slots, with_phase, with_children, committed}
 
 -- ---- when an event is enabled
 

@@ -1,9 +1,8 @@
 -- A new world.
 use Rattle.std.specs.Prelude.{◌≡◌, ℕ, Bool, false, Some, List, length, map, replicate, slice_get}
-use Rattle.bit_ops.specs.Lists.{words, widths}
+use Rattle.bit_ops.specs.Lists.{words}
 use Rattle.code_isa.specs.declared.machine.Kid.{Kid}
 use Rattle.code_isa.specs.declared.machine.Machine.{Machine}
-use Rattle.code_isa.specs.Faces.{output_widths}
 use Rattle.code_isa.specs.Slots.{slot_count}
 use Rattle.code_isa.specs.Tree.{top_of}
 use Rattle.code_isa.specs.Traces.{levels_at}

@@ -1,12 +1,10 @@
 -- A step of the clocks, from a quiescent moment on.
 use Rattle.std.specs.Prelude.{◌≡◌, ℕ, Bool, false, Option, Some, List, map, slice_get}
-use Rattle.bit_ops.specs.Lists.{words}
-use Rattle.code_isa.specs.Tree.{State, held_of}
+use Rattle.code_isa.specs.Tree.{held_of}
 use Rattle.code_isa.specs.Traces.{TakesEdges}
 use Rattle.model_stage.specs.Model.{Model}
-use Rattle.sequence_select.specs.Shown.{Taken}
 use Rattle.wrapper_core.specs.declared.wrapped.Wrapped.{Wrapped}
-use Rattle.wrapper_core.specs.Snapshot.{Phase, Calm, Striking, Snapshot, tree_in, state_in, with_levels}
+use Rattle.wrapper_core.specs.Snapshot.{Striking, Snapshot, tree_in, state_in, with_levels}
 use Rattle.wrapper_core.specs.Events.{IsQuiescent}
 
 -- a strike is under way

@@ -1,5 +1,5 @@
 -- What is known of a block and the children around it.
-use Rattle.std.specs.Prelude.{◌≡◌, ℕ, ◌+◌, ◌<◌, ◌≤◌, Bool, true, false, Some, List, length, map, take, drop, slice_get, slice_set}
+use Rattle.std.specs.Prelude.{◌≡◌, ℕ, ◌+◌, ◌<◌, ◌≤◌, Bool, true, false, Some, List, length, take, drop, slice_get, slice_set}
 use Rattle.std.specs.List.{flat_map}
 use Rattle.bit_ops.specs.Lists.{words, widths}
 use Rattle.code_isa.specs.declared.machine.Kid.{Kid}
@@ -8,7 +8,7 @@ use Rattle.code_isa.specs.Faces.{output_count, output_widths}
 use Rattle.code_isa.specs.Slots.{first_kid_output}
 use Rattle.code_isa.specs.Tree.{top_of}
 use Rattle.model_stage.specs.Model.{Model}
-use Rattle.sequence_select.specs.Shown.{Taken, shown}
+use Rattle.sequence_select.specs.Shown.{shown}
 use Rattle.wrapper_core.specs.declared.block.Block.{Block}
 use Rattle.wrapper_core.specs.declared.buffer.Buffer.{Buffer}
 use Rattle.wrapper_core.specs.declared.wrapped.Wrapped.{Wrapped}

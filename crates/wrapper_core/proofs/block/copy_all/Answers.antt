@@ -1,8 +1,7 @@
-use Rattle.std.proofs.Common.{◌≡◌, ◌<◌, ◌+◌, ◌∙◌, length, set, false, sym, ap, subst, arith}
-use Rattle.std.specs.Prelude.{slice_index}
-use Rattle.bit_ops.specs.Lists.{words, widths}
-use Rattle.code_isa.specs.Slots.{slot_widths, first_instruction, given_widths, width_at}
-use Rattle.wrapper_core.proofs.Blocking.{left, left_less, member_inside, copied_more, read_word, read_width, width_before, slots_room, words_each, widths_each}
+use Rattle.std.proofs.Common.{◌<◌, ◌∙◌, length, set, false, sym, ap, subst, arith}
+use Rattle.bit_ops.specs.Lists.{words}
+use Rattle.code_isa.specs.Slots.{first_instruction}
+use Rattle.wrapper_core.proofs.Blocking.{left, left_less, member_inside, copied_more, read_word, slots_room, words_each, widths_each}
 use Rattle.std.proofs.lemmas.List.{length-set}
 use Rattle.wrapper_core.proofs.block.copy_all.Goals as goal
 

@@ -1,4 +1,4 @@
-use Rattle.std.proofs.Common.{◌≡◌, ◌<◌, ◌∙◌, length, sym, subst, arith}
+use Rattle.std.proofs.Common.{◌<◌, ◌∙◌, length, sym, subst, arith}
 use Rattle.bit_ops.specs.Lists.{words}
 use Rattle.code_isa.specs.Slots.{slot_widths}
 use Rattle.code_isa.specs.Activity.{HaveValuesBut}

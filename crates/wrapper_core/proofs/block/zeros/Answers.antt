@@ -1,5 +1,5 @@
 use Rattle.std.proofs.Common.{◌≡◌, ◌<◌, ◌+◌, ◌∙◌, [], length, map, refl, sym, ap, arith}
-use Rattle.std.specs.Prelude.{slice_get, Some, slice_index}
+use Rattle.std.specs.Prelude.{slice_get, Some}
 use Rattle.bit_ops.specs.Lists.{widths}
 use Rattle.std.proofs.lemmas.List.{length-map, get_or-map}
 use Rattle.std.proofs.lemmas.Option.{slice_get_within, get_or_from_slice_get}

@@ -1,4 +1,4 @@
-use Rattle.std.proofs.Common.{◌<◌, ◌∙◌, length, false, refl, sym, arith}
+use Rattle.std.proofs.Common.{◌∙◌, false, arith}
 use Rattle.std.specs.Prelude.{slice_index_or}
 use Rattle.std.proofs.lemmas.List.{length-set, length-map, get_or-map}
 use Rattle.code_isa.specs.Traces.{level_at, levels_at}

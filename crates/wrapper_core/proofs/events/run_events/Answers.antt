@@ -1,10 +1,9 @@
-use Rattle.std.proofs.Common.{◌≡◌, ◌<◌, ◌≤◌, ◌+◌, ◌-◌, ◌∙◌, ◌++◌, ◌∷◌, [], length, take, get_or, refl, sym, ap, subst, arith}
-use Rattle.std.specs.Prelude.{slice_get, Some}
+use Rattle.std.proofs.Common.{◌≡◌, ◌<◌, ◌+◌, ◌-◌, ◌∙◌, ◌++◌, ◌∷◌, [], length, take, get_or, refl, sym, ap, subst, arith}
 use Rattle.std.proofs.lemmas.List.{take_more}
 use Rattle.std.proofs.lemmas.Option.{slice_get_within}
 use Rattle.wrapper_core.specs.declared.event.Event.{Event}
 use Rattle.wrapper_core.specs.declared.event.Event.TheVariants.{Own}
-use Rattle.wrapper_core.specs.Events.{IsEnabled, Schedule, HasRoom}
+use Rattle.wrapper_core.specs.Events.{Schedule, HasRoom}
 use Rattle.wrapper_core.specs.World.{moment_of}
 use Rattle.wrapper_core.proofs.Worlds.{world_settled}
 use Rattle.wrapper_core.proofs.Running.{schedule_push, room_kept, room_for, shows_same, takes_edges}

@@ -1,10 +1,8 @@
-use Rattle.std.proofs.Common.{◌≡◌, ◌<◌, ◌≤◌, ◌+◌, ◌∙◌, length, map, false, sym, ap, subst, arith}
+use Rattle.std.proofs.Common.{◌<◌, ◌≤◌, ◌+◌, ◌∙◌, length, false, sym, ap, subst, arith}
 use Rattle.std.specs.Prelude.{slice_index}
 use Rattle.std.proofs.lemmas.List.{length-set, length-map}
 use Rattle.bit_ops.specs.Lists.{words}
-use Rattle.code_isa.specs.Slots.{width_at, first_register}
-use Rattle.code_isa.specs.declared.machine.Machine.{Machine}
-use Rattle.wrapper_core.proofs.Lists.{placed_size}
+use Rattle.code_isa.specs.Slots.{width_at}
 use Rattle.wrapper_core.proofs.Blocking.{left, left_less, member_inside, read_word, read_width, register_width, given_size, words_each, widths_each}
 use Rattle.wrapper_core.proofs.Giving.{given_more, given_all}
 use Rattle.wrapper_core.proofs.sampling.give_all.Goals as goal

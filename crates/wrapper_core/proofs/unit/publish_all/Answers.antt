@@ -1,5 +1,5 @@
-use Rattle.std.proofs.Common.{◌≡◌, ◌<◌, ◌≤◌, ◌∙◌, length, sym, arith}
-use Rattle.wrapper_core.proofs.Publishing.{own_then, own_same, published_none, published_more, published_all}
+use Rattle.std.proofs.Common.{◌≤◌, ◌∙◌, length, sym, arith}
+use Rattle.wrapper_core.proofs.Publishing.{own_then, published_more, published_all}
 use Rattle.wrapper_core.proofs.unit.publish_all.Goals as goal
 
 pub publish_at-requires-clause-struck : goal.publish_at-requires-clause-struck

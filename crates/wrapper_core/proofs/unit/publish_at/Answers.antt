@@ -1,20 +1,12 @@
-use Rattle.std.proofs.Common.{◌≡◌, ◌<◌, ◌≤◌, ◌+◌, ◌∙◌, length, set, false, true, refl, sym, ap, subst, arith}
+use Rattle.std.proofs.Common.{◌≡◌, ◌<◌, ◌∙◌, length, true, refl, sym, ap, arith}
 use Rattle.std.specs.Prelude.{slice_get, Some}
-use Rattle.bit_ops.specs.Lists.{words, widths}
-use Rattle.bit_ops.specs.declared.value.Bits.{Bits}
-use Rattle.code_isa.specs.declared.machine.Machine.{Machine}
 use Rattle.code_isa.specs.declared.machine.Kid.{Kid}
-use Rattle.code_isa.specs.Checks.{IsChecked}
-use Rattle.code_isa.specs.Tree.{words_at}
 use Rattle.code_isa.specs.Faces.{output_widths}
-use Rattle.code_isa.specs.Traces.{levels_at}
-use Rattle.model_stage.specs.Model.{Updates, Strikes}
 use Rattle.sequence_select.specs.Shown.{shown}
 use Rattle.wrapper_core.specs.declared.buffer.Buffer.{Buffer}
-use Rattle.wrapper_core.specs.code.Cores.{IsSeated, HasBufferRoom, IsCore, KeepsOwn}
-use Rattle.wrapper_core.proofs.Blocking.{item_at}
+use Rattle.wrapper_core.specs.code.Cores.{IsSeated, HasBufferRoom}
 use Rattle.wrapper_core.proofs.Seats.{stands_struck, seated_publish}
-use Rattle.wrapper_core.proofs.Cores.{read_set, found, joined_widths, core_same, read_room, read_widths, read_placed, kid_for}
+use Rattle.wrapper_core.proofs.Cores.{read_set, found, read_room, read_widths, read_placed, kid_for}
 use Rattle.code_isa.specs.Faces.{output_count}
 use Rattle.wrapper_core.proofs.unit.publish_at.Goals as goal
 

@@ -1,5 +1,5 @@
-use Rattle.std.proofs.Common.{◌≡◌, ◌≤◌, ◌+◌, ◌∙◌, length, take, sym, ap, subst, arith}
-use Rattle.bit_ops.specs.Lists.{words, widths}
+use Rattle.std.proofs.Common.{◌≡◌, ◌∙◌, length, sym, ap, subst, arith}
+use Rattle.bit_ops.specs.Lists.{words}
 use Rattle.code_isa.specs.Slots.{slot_widths, first_instruction}
 use Rattle.code_isa.specs.Values.{IsRun, KeepsGiven}
 use Rattle.code_isa.specs.Activity.{HaveValuesBut}

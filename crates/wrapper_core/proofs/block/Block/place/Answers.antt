@@ -1,4 +1,4 @@
-use Rattle.std.proofs.Common.{◌≡◌, ◌+◌, ◌≤◌, ◌∙◌, length, arith}
+use Rattle.std.proofs.Common.{◌+◌, ◌≤◌, ◌∙◌, length, arith}
 use Rattle.bit_ops.specs.Lists.{words}
 use Rattle.wrapper_core.proofs.Blocking.{given_size, words_each, place_more}
 use Rattle.wrapper_core.proofs.block.Block.place.Goals as goal

@@ -1,4 +1,4 @@
-use Rattle.std.proofs.Common.{◌≡◌, ◌<◌, ◌∙◌, length, get_or, arith}
+use Rattle.std.proofs.Common.{◌<◌, ◌∙◌, length, arith}
 use Rattle.wrapper_core.proofs.Blocking.{read_word, word_same, word_set, given_size, put_block}
 use Rattle.wrapper_core.proofs.block.Block.put.Goals as goal
 

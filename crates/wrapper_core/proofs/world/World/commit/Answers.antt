@@ -1,4 +1,4 @@
-use Rattle.std.proofs.Common.{◌≡◌, ◌∙◌, false, length, refl, sym, ap, subst}
+use Rattle.std.proofs.Common.{◌≡◌, ◌∙◌, length, refl, sym, ap, subst}
 use Rattle.std.specs.Prelude.{Some, None, if◌then◌else◌}
 use Rattle.bit_ops.specs.Lists.{words}
 use Rattle.code_isa.specs.declared.machine.Machine.{Machine}
@@ -9,7 +9,6 @@ use Rattle.wrapper_core.specs.code.Blocks.{placed}
 use Rattle.wrapper_core.specs.code.Samplings.{IsSampling, registers_of_block, held_of_block}
 use Rattle.wrapper_core.specs.World.{levels_before, phase_of}
 use Rattle.wrapper_core.proofs.Worlds.{core_given, next_size, registers_placed, published_levels, published_free, sampled_parts_of, same_parts}
-use Rattle.wrapper_core.proofs.Schedules.{published_each}
 use Rattle.wrapper_core.proofs.world.World.commit.Goals as goal
 
 pub publish_all-requires-clause-core : goal.publish_all-requires-clause-core

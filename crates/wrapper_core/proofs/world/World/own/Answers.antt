@@ -1,4 +1,4 @@
-use Rattle.std.proofs.Common.{◌≡◌, ◌∙◌, drop, refl, sym, ap}
+use Rattle.std.proofs.Common.{drop, ap}
 use Rattle.bit_ops.specs.Lists.{words}
 use Rattle.code_isa.specs.Slots.{first_kid_output}
 use Rattle.wrapper_core.specs.code.Samplings.{held_of_block, registers_of_block}

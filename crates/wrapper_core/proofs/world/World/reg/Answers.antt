@@ -2,7 +2,6 @@ use Rattle.std.proofs.Common.{◌≡◌, ◌<◌, ◌+◌, ◌∙◌, length, ma
 use Rattle.std.specs.Prelude.{slice_index, Some}
 use Rattle.std.proofs.lemmas.List.{length-map}
 use Rattle.std.proofs.lemmas.Option.{slice_get-get_or}
-use Rattle.bit_ops.specs.Lists.{widths}
 use Rattle.code_isa.specs.declared.machine.Reg.{Reg}
 use Rattle.code_isa.specs.Slots.{first_register, first_instruction, given_widths}
 use Rattle.wrapper_core.proofs.Blocking.{register_width, width_before, read_width, given_size}

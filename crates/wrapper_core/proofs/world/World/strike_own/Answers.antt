@@ -5,7 +5,7 @@ use Rattle.code_isa.specs.Traces.{sampled, levels_at}
 use Rattle.code_isa.specs.declared.machine.Machine.{Machine}
 use Rattle.wrapper_core.specs.Snapshot.{Phase, Striking}
 use Rattle.wrapper_core.specs.code.Samplings.{IsSampling, registers_of_block, held_of_block}
-use Rattle.wrapper_core.specs.World.{levels_before, levels_by}
+use Rattle.wrapper_core.specs.World.{levels_by}
 use Rattle.wrapper_core.proofs.Blocking.{true_is_not_false}
 use Rattle.wrapper_core.proofs.Worlds.{sampling_of_next, next_registers, unsampled_parts, before_same, striking_phase}
 use Rattle.wrapper_core.proofs.world.World.strike_own.Goals as goal

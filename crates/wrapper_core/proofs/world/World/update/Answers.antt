@@ -1,4 +1,3 @@
-use Rattle.std.proofs.Common.{◌≡◌, sym, ap}
 use Rattle.bit_ops.specs.Lists.{words}
 use Rattle.wrapper_core.specs.declared.world.World.{World}
 use Rattle.wrapper_core.specs.World.{levels_before, phase_of}
