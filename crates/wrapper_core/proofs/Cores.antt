@@ -1,15 +1,18 @@
 -- A block and its children, when one child has made a call.
-use Rattle.std.proofs.Common.{◌≡◌, ℕ, zero, suc, ◌+◌, ◌<◌, ◌≤◌, inl, inr, List, [], ◌∷◌, ◌++◌, length, map, take, drop, get_or, set, refl, sym, ◌∙◌, ap, subst, arith}
+use Rattle.std.proofs.Common.{◌≡◌, ℕ, zero, suc, ◌+◌, ◌<◌, ◌≤◌, ◌⊎◌, inl, inr, List, [], ◌∷◌, ◌++◌, length, map, take, drop, get_or, set, refl, sym, ◌∙◌, ap, subst, arith}
 use Rattle.std.specs.Prelude.{slice_get, Some}
 use Rattle.std.specs.List.{flat_map}
-use Rattle.std.proofs.lemmas.List.{length-set, length-append, length-map, length-drop, take_all, drop-drop, drop_at, get_or-set_same}
+use Rattle.std.proofs.lemmas.List.{length-set, length-append, length-map, length-drop, take_all, take_more, append-nil, drop-drop, drop_at, get_or-set_same}
+use Rattle.std.proofs.lemmas.Grind.{flat_map-append}
+use Rattle.sv_base.specs.Classes.{is_output}
+use Rattle.sv_base.specs.declared.face.Port.{Port}
 use Rattle.std.proofs.lemmas.Option.{none-some, same_Some, slice_get_within, get_or_from_slice_get, slice_get-get_or}
 use Rattle.bit_ops.specs.Lists.{words, widths}
 use Rattle.bit_ops.specs.declared.value.Bits.{Bits}
 use Rattle.code_isa.specs.declared.machine.Reg.{Reg}
 use Rattle.code_isa.specs.declared.machine.Kid.{Kid}
 use Rattle.code_isa.specs.declared.machine.Machine.{Machine}
-use Rattle.code_isa.specs.Faces.{input_widths, output_widths}
+use Rattle.code_isa.specs.Faces.{input_widths, output_widths, ports_of}
 use Rattle.code_isa.specs.Slots.{given_widths, first_register, first_kid_output, first_instruction, slot_widths, width_at}
 use Rattle.code_isa.specs.Checks.{IsChecked}
 use Rattle.code_isa.specs.Tree.{words_at}
@@ -202,3 +205,42 @@ pub joined_widths : (m : Machine) (slots : List Bits) (i : ℕ) (kid : Kid) → 
 joined_widths m slots i kid checked shape at =
     ap (λ ws. words_at ws kid.ins) shape
     ∙ all_at (λ (k : Kid). map (width_at m) k.ins ≡ input_widths k.face) m.kids i kid checked.slot_width.ins (slice_get_within m.kids i kid at) (sym (get_or_from_slice_get m.kids i kid kid at))
+
+-- what stands in a list with one item more
+pub got_push : {Y : Type 0} (xs : List Y) (y z : Y) (i : ℕ) → slice_get (xs ++ y ∷ []) i ≡ Some z → ((i ≡ length xs) × (z ≡ y)) ⊎ (slice_get xs i ≡ Some z)
+got_push [] y z zero at = inl (refl, sym (same_Some y z at))
+got_push [] y z (suc i) at = absurd (none-some z at)
+got_push (x ∷ xs) y z zero at = inr at
+got_push (x ∷ xs) y z (suc i) at = elim (got_push xs y z i at) [ inl here ↦ inl (ap suc here.0, here.1) | inr there ↦ inr there ]
+
+pub kid_size : (kid : Kid) → length kid.summary.rows ≡ length (kid_widths kid)
+kid_size kid = kid.summary_fits.rows ∙ sym (length-map (ports_of is_output kid.face) (λ (p : Port). p.width))
+
+-- one child more
+pub total_more : (kids : List Kid) (k : ℕ) (kid : Kid) → slice_get kids k ≡ Some kid → length (flat_map kid_widths (take (k + 1) kids)) ≡ length (flat_map kid_widths (take k kids)) + length (kid_widths kid)
+total_more kids k kid at =
+    let inside : k < length kids = slice_get_within kids k kid at in
+    let more : take (k + 1) kids ≡ take k kids ++ kid ∷ [] = take_more kids k kid inside ∙ ap (λ x. take k kids ++ x ∷ []) (get_or_from_slice_get kids k kid kid at) in
+    ap (λ xs. length (flat_map kid_widths xs)) more ∙ ap length (flat_map-append kid_widths (take k kids) (kid ∷ []))
+    ∙ length-append (flat_map kid_widths (take k kids)) (flat_map kid_widths (kid ∷ []))
+    ∙ ap (λ xs. length (flat_map kid_widths (take k kids)) + length xs) (append-nil (kid_widths kid))
+
+pub buffer_more : (m : Machine) (bs new : List Buffer) (k : ℕ) (kid : Kid) (b : Buffer) → slice_get m.kids k ≡ Some kid → length bs ≡ k → new ≡ bs ++ b ∷ [] → IsBuffer m k kid b →
+    ((i : ℕ) (x : Kid) (f : Buffer) → slice_get m.kids i ≡ Some x → slice_get bs i ≡ Some f → IsBuffer m i x f) → (i : ℕ) (x : Kid) (f : Buffer) → slice_get m.kids i ≡ Some x → slice_get new i ≡ Some f → IsBuffer m i x f
+buffer_more m bs new k kid b kid_at size step fits was i x f xi fi =
+    elim (got_push bs b f i (ap (λ xs. slice_get xs i) (sym step) ∙ fi)) [
+      | inl here ↦
+          let place : i ≡ k = here.0 ∙ size in
+          let same : kid ≡ x = same_Some kid x (sym kid_at ∙ ap (slice_get m.kids) (sym place) ∙ xi) in
+          subst (λ y. IsBuffer m i x y) (sym here.1) (subst (λ (y : Kid). IsBuffer m i y b) same (subst (λ n. IsBuffer m n kid b) (sym place) fits))
+      | inr there ↦ was i x f xi there
+    ]
+
+-- the item at which what is left of a list begins
+pub at_front : {Y : Type 0} (xs : List Y) (n : ℕ) (y : Y) (ys : List Y) → drop n xs ≡ y ∷ ys → slice_get xs n ≡ Some y
+at_front xs zero y ys e = ap (λ zs. slice_get zs 0) e
+at_front [] (suc n) y ys e = ap (λ zs. slice_get zs 0) e
+at_front (x ∷ xs) (suc n) y ys e = at_front xs n y ys e
+
+pub front_taken : {Y : Type 0} (xs : List Y) (n : ℕ) (y : Y) (ys : List Y) → drop n xs ≡ y ∷ ys → ys ≡ drop (n + 1) xs
+front_taken xs n y ys e = sym (ap (drop 1) e) ∙ drop-drop 1 n xs

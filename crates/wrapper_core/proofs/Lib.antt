@@ -9,4 +9,5 @@ pub mod Seats
 pub mod Cores
 pub mod Publishing
 pub mod Worlds
+pub mod Starting
 pub mod Running

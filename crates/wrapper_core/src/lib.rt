@@ -5,6 +5,7 @@ mod block;
 mod buffer;
 mod event;
 mod events;
+mod making;
 mod sampling;
 mod unit;
 mod world;

@@ -13,12 +13,12 @@ ghost use Rattle.wrapper_core.specs.Start.{AreJoined, IsStart};
 
 use crate::block::Block;
 use crate::buffer::Buffer;
+use crate::making::{add_shown, buffers_of, wrap_all};
 use crate::sampling::Sampling;
 use crate::wrapped::Wrapped;
 use bit_ops::Bits;
-use code_isa::{Checked, Kid, Machine};
+use code_isa::{Checked, first_instruction};
 use model_stage::Child;
-use sequence_select::Wrapper;
 use std::alloc::{AllocError, Global};
 use std::rc::Rc;
 use sv_base::{Class, Face};
@@ -41,6 +41,48 @@ pub struct World<C> {
 }
 
 impl<C: Child> World<C> {
+    /// A calm world with these held inputs, levels of the clocks, registers and children, in which every slot is 0.
+    pub fn new(
+        alloc: Global,
+        code: Rc<Checked>,
+        inputs: &[Bits],
+        levels: &[bool],
+        regs: &[Bits],
+        children: Vec<C>,
+    ) -> Result<World<C>, AllocError>
+        requires inputs { widths inputs.now ≡ input_widths code.value.face }
+        requires levels { length levels.now ≡ clock_count code.value.face }
+        requires registers { widths regs.now ≡ map (λ r. r.width) code.value.regs }
+        requires children { AreJoined C.model C.ready code.value levels.now children.items }
+        ensures world { IfOk result (IsWorld C.model C.ready C.struck) }
+        ensures start { IfOk result (λ w. IsStart C.model code.value (words inputs.now) levels.now (words regs.now) children.items (moment_of w)) }
+    {
+        let m = code.as_ref();
+        let slots = first_instruction(m.machine());
+        let mut given = Vec::with_capacity(alloc, slots)?;
+        given.extend_from_slice(inputs)?;
+        given.extend_from_slice(regs)?;
+        let buffers = buffers_of(alloc, m.machine(), given.len())?;
+        let children = wrap_all(alloc, m.machine().kids.as_slice(), children)?;
+        add_shown(&mut given, children.as_slice())?;
+        let sampling = Sampling::new(alloc, m, regs, levels.len())?;
+        let visited = vec![in alloc; false; children.len()]?;
+        let before = Vec::from_slice(alloc, levels)?;
+        let levels = Vec::from_slice(alloc, levels)?;
+        let block = Block::new(alloc, code, given)?;
+        Ok(World {
+            block,
+            sampling,
+            levels,
+            before,
+            striking: false,
+            sampled: false,
+            children,
+            buffers,
+            visited,
+        })
+    }
+
     /// Replaces the held inputs, one for each data input in port order. Takes no memory.
     pub fn set_inputs(&mut self, inputs: &[Bits])
         requires world { IsWorld C.model C.ready C.struck self.old }
