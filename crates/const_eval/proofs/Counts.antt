@@ -6,7 +6,7 @@ use Rattle.std.proofs.lemmas.Bool.{lt-ltb, le-ltb, cases_lt}
 use Rattle.bit_ops.specs.declared.value.TheConstants.{MAX_WIDTH}
 use Rattle.sv_base.specs.declared.refusal.Place.{Place}
 use Rattle.sv_base.specs.declared.refusal.Refusal.{Refusal}
-use Rattle.const_eval.specs.code.WholeNumbers.{count_of}
+use Rattle.const_eval.specs.WholeNumbers.{count_of}
 use Rattle.const_eval.specs.Expressions.{as_width}
 
 -- a count as a width

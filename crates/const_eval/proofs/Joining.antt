@@ -6,7 +6,7 @@ use Rattle.bit_ops.specs.declared.value.TheConstants.{MAX_WIDTH}
 use Rattle.bit_ops.specs.Meaning.{concat_of}
 use Rattle.sv_base.specs.declared.kind.Kind.TheVariants as kind
 use Rattle.sv_base.specs.declared.refusal.Place.{Place}
-use Rattle.const_eval.specs.code.WholeNumbers.{count_of}
+use Rattle.const_eval.specs.WholeNumbers.{count_of}
 use Rattle.const_eval.specs.Meaning.{Meaning, own, number}
 use Rattle.const_eval.specs.Expressions as spec
 use Rattle.const_eval.specs.Selects.{total, joined}

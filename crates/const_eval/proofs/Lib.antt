@@ -7,4 +7,11 @@ pub mod Counts
 pub mod Selecting
 pub mod Judging
 pub mod Parts
+pub mod Means
 pub mod Opened
+pub mod Least
+pub mod Judged
+pub mod Sizes
+pub mod Constants
+pub mod NetWords
+pub mod Numbers

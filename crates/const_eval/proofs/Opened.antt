@@ -1,27 +1,26 @@
 -- Expressions whose parts agree.
 use Rattle.std.specs.Prelude.{◌≡◌, ◌≤◌, Bool, true, List, [], ◌∷◌, map, length, Result, Ok, Err}
-use Rattle.std.proofs.Common.{refl, ◌∙◌, ap, get_or, arith}
+use Rattle.std.proofs.Common.{refl, sym, subst, ◌∙◌, ap, get_or, arith}
 use Rattle.sv_base.specs.declared.refusal.Place.{Place}
 use Rattle.sv_ast.specs.declared.expression.Id.{Id}
 use Rattle.sv_ast.specs.declared.expression.Sel.{Sel}
-use Rattle.sv_ast.specs.declared.expression.Expr.{Expr, Choice, Repeat}
-use Rattle.sv_ast.specs.declared.expression.Expr.TheVariants.{outs-Choice, outs-Repeat}
-use Rattle.sv_ast.specs.declared.expression.Expr.TheFolds.{fold-Expr, map-Expr, fold_out-Expr}
+use Rattle.sv_ast.specs.declared.expression.Expr.{Expr, Read, Choice, Repeat}
+use Rattle.sv_ast.specs.declared.expression.Expr.TheVariants.{outs-Read, outs-Choice, outs-Repeat}
+use Rattle.sv_ast.specs.declared.expression.Expr.TheFolds.{map-Expr, fold_out-Expr}
 use Rattle.sv_base.specs.declared.fault.Fault.{Fault}
 use Rattle.sv_base.specs.declared.fault.Fault.TheVariants.{Refused}
 use Rattle.const_eval.specs.declared.joined.Joined.{Joined}
 use Rattle.const_eval.specs.declared.measured.Measured.{Measured}
+use Rattle.const_eval.specs.declared.name.Constant.{Constant}
 use Rattle.const_eval.specs.declared.taking.Taking.{Taking}
+use Rattle.const_eval.specs.Constant.{constant_named}
 use Rattle.const_eval.specs.Meaning.{Meaning, chosen}
 use Rattle.const_eval.specs.Selects.{Named}
 use Rattle.const_eval.specs.Expressions as spec
 use Rattle.const_eval.specs.Expressions.{Names, Judged, Select, expression_layer, select_layer, meaning_of, meanings_of, select_of}
-use Rattle.const_eval.specs.code.Agreeing.{Agrees, Matches, IsJoined, ArePositions}
+use Rattle.const_eval.specs.code.Agreeing.{Agrees, Matches, IsNamed, IsJoined, ArePositions}
 use Rattle.const_eval.proofs.Judging.{agrees_behind, refused_first}
-
--- the meaning of an expression, where a constant is needed or not
-abbrev means : Names → Expr → Bool → Judged
-means names = fold-Expr (Bool → Judged) Select (expression_layer names) select_layer
+use Rattle.const_eval.proofs.Means.{means}
 
 -- an expression is what its layer makes of its parts
 choice_opened : (names : Names) (sign : Id) (test first second : Expr) → means names (Choice sign test first second) true ≡ spec.choice (means names test) (means names first) (means names second) true
@@ -33,6 +32,18 @@ repeat_opened : (names : Names) (place : Place) (count : Expr) (parts : List Exp
 repeat_opened names place count parts =
     ap (λ (f : Bool → Judged). f true) (fold_out-Expr (Bool → Judged) Select (expression_layer names) select_layer (Repeat place count parts))
     ∙ ap (λ x. expression_layer names (map-Expr Expr Sel (Bool → Judged) Select (means names) (select_of names) x) true) (outs-Repeat place count parts)
+
+read_opened : (names : Names) (name : Id) (selects : List Sel) → means names (Read name selects) true ≡ spec.read names name (map (select_of names) selects) true
+read_opened names name selects =
+    ap (λ (f : Bool → Judged). f true) (fold_out-Expr (Bool → Judged) Select (expression_layer names) select_layer (Read name selects))
+    ∙ ap (λ x. expression_layer names (map-Expr Expr Sel (Bool → Judged) Select (means names) (select_of names) x) true) (outs-Read name selects)
+
+-- a name that means a constant
+pub read_agrees : (names : Names) (name : Id) (selects : List Sel) (k : Constant) (r : Result Measured Fault) → Agrees IsNamed (Ok k) (spec.named_by names true name)
+    → Agrees Matches r (spec.selected (map (select_of names) selects) true (constant_named k.value k.low) name) → Agrees Matches r (meaning_of names true (Read name selects))
+read_agrees names name selects k r h g =
+    rw (read_opened names name selects)
+    (agrees_behind IsNamed Matches k (spec.named_by names true name) _ r h (λ named is. subst (λ (n : Named). Agrees Matches r (spec.selected (map (select_of names) selects) true n name)) (sym is) g))
 
 -- a choice all of whose parts agree
 pub choice_agrees : (names : Names) (sign : Id) (test first second : Expr) (c a b : Measured) (r : Measured)
@@ -69,7 +80,7 @@ repeat_agrees names place count parts n j r h1 h2 all =
 
 -- a select that agrees
 pub select_agrees : (s : Select) (named : Named) (name : Id) (t : Taking) (r : Result Measured Fault) → Agrees ArePositions (Ok t) (s.positions true)
-    → ((p : spec.Positions) → ArePositions t p → Agrees Matches r (spec.take s.place p named name)) → Agrees Matches r (spec.selected_by s true named name)
+    → ((p : spec.Positions) → ArePositions t p → Agrees Matches r (spec.take p named name)) → Agrees Matches r (spec.selected_by s true named name)
 select_agrees s named name t r h all = agrees_behind ArePositions Matches t (s.positions true) _ r h all
 
 -- two selects of a name

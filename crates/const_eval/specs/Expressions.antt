@@ -64,12 +64,11 @@ abbrev pub named_by : Names → Bool → Id → Result Named Refusal
 named_by names needed name = or_refused (refused_at kind.UnknownName name) (names name.name) >>= λ named.
     if needed && not named.constant then Err (refused_at kind.NotConstant name) else Ok named
 
--- so many bits of a name from a position on, where it has a range and the width is one that a value may have; the place is
--- that of the `[`
-abbrev pub taken : Place → ℤ → (ℕ → ℤ) → Named → Id → Judged
-taken place width position named name =
+-- so many bits of a name from a position on, where it has a range and the width is one that a value may have
+abbrev pub taken : ℤ → (ℕ → ℤ) → Named → Id → Judged
+taken width position named name =
     if named.ranged
-    then (as_width (refused_at kind.BadRange name) place width >>= λ w. Ok (part named (position w) w))
+    then (as_width (refused_at kind.BadRange name) name.place width >>= λ w. Ok (part named (position w) w))
     else Err (refused_at kind.BadRange name)
 
 -- the positions of a select, by what they mean: one, or two with `:`, `+:` or `-:` between (11.5.1)
@@ -81,11 +80,11 @@ pub data Positions : Type 0 where
 
 -- what a select takes of a name: the bit at a position, the bits from one position down to another, so many bits from a
 -- position up, or so many from a position down
-abbrev pub take : Place → Positions → Named → Id → Judged
-take place (At p) = taken place (pos 1) (λ w. number p)
-take place (DownTo high low) = taken place (number high -ℤ number low +ℤ pos 1) (λ w. number low)
-take place (UpFrom p width) = taken place (number width) (λ w. number p)
-take place (DownFrom p width) = taken place (number width) (λ w. number p -ℤ pos w +ℤ pos 1)
+abbrev pub take : Positions → Named → Id → Judged
+take (At p) = taken (pos 1) (λ w. number p)
+take (DownTo high low) = taken (number high -ℤ number low +ℤ pos 1) (λ w. number low)
+take (UpFrom p width) = taken (number width) (λ w. number p)
+take (DownFrom p width) = taken (number width) (λ w. number p -ℤ pos w +ℤ pos 1)
 
 -- A select behind a name: where its `[` stands, and its positions. A position is a constant where one is needed; both bounds
 -- of a part and the width of an indexed part are always constants.
@@ -109,7 +108,7 @@ second_select place = record { kind = kind.Unexpected; place = place; name = cod
 
 -- what one select takes of a name
 abbrev pub selected_by : Select → Bool → Named → Id → Judged
-selected_by s needed named name = s.positions needed >>= λ positions. take s.place positions named name
+selected_by s needed named name = s.positions needed >>= λ positions. take positions named name
 
 -- the refusal of two selects, behind the positions of both
 abbrev pub twice_selected : Select → Select → Bool → Judged

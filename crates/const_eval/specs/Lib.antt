@@ -1,7 +1,14 @@
 pub mod Literal
 pub mod Meaning
 pub mod Operators
+pub mod Operations
+pub mod Shapes
+pub mod WholeNumbers
 pub mod Selects
 pub mod Expressions
+pub mod Tokens
+pub mod Sized
+pub mod Alike
+pub mod Env
 pub mod Constant
 pub mod code

@@ -1,5 +1,5 @@
 -- What an expression means: its own size and sign, and its value in a context (IEEE 1800-2017, 11.6 to 11.8).
-use Rattle.std.specs.Prelude.{ℕ, ◌-◌, ◌^◌, Bool, false, not, ◌&&◌, ◌==◌, max, ℤ, pos, if◌then◌else◌}
+use Rattle.std.specs.Prelude.{ℕ, ◌-◌, ◌%◌, ◌^◌, Bool, true, false, not, ◌&&◌, ◌==◌, max, ℤ, pos, if◌then◌else◌, List, [], ◌∷◌, Option, None, Some}
 use Rattle.bit_ops.specs.Meaning.{signed_of, sext_of, zext_of}
 
 -- An expression has a size and a sign of its own, and a value in each size that is at least its own: the unsigned number of
@@ -75,3 +75,26 @@ moved f a b = record { size = a.size; signed = a.signed; value = λ n s. f n s (
 -- a choice: the condition by itself, the two in the context (11.4.11)
 abbrev pub chosen : Meaning → Meaning → Meaning → Meaning
 chosen c a b = record { size = meeting a b; signed = are_signed a b; value = λ n s. if holds c then a.value n s else b.value n s }
+
+-- ---- where an expression is assigned or compared
+
+-- the size of an assigned value: the target's where it is told, else the expression's own (10.7)
+abbrev pub assigned_size : Option ℕ → Meaning → ℕ
+assigned_size None m = m.size
+assigned_size (Some target) m = target
+
+-- The assigned value (10.7, 11.8.2): in an unsigned context where that is asked for, else in one of the expression's own sign; at
+-- the greater of the target's size and its own, cut to the target, or at its own size where no target's is told.
+abbrev pub assigned : Option ℕ → Bool → Meaning → ℕ
+assigned None unsigned m = m.value m.size (not unsigned && m.signed)
+assigned (Some target) unsigned m = m.value (max target m.size) (not unsigned && m.signed) % 2 ^ target
+
+-- the size at which a `case` compares its expressions: the greatest of theirs (12.5)
+abbrev pub case_size : List Meaning → ℕ
+case_size [] = 0
+case_size (m ∷ ms) = max m.size (case_size ms)
+
+-- it compares them signed only where all are (12.5)
+abbrev pub case_signed : List Meaning → Bool
+case_signed [] = true
+case_signed (m ∷ ms) = m.signed && case_signed ms

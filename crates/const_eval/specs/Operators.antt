@@ -1,5 +1,5 @@
 -- What the operators and functions mean, each its row of the table of sizes (IEEE 1800-2017, 11.4).
-use Rattle.std.specs.Prelude.{ℕ, zero, suc, ◌+◌, ◌-◌, ◌%◌, ◌^◌, Bool, true, false, not, ◌&&◌, ◌||◌, nat_lt, if◌then◌else◌}
+use Rattle.std.specs.Prelude.{ℕ, zero, suc, ◌+◌, ◌-◌, ◌%◌, ◌^◌, Bool, true, false, not, ◌&&◌, ◌||◌, nat_le, if◌then◌else◌}
 use Rattle.bit_ops.specs.Meaning.{neg_of, not_of, and_of, or_of, xor_of, add_of, sub_of, mul_of, div_u_of, div_s_of, mod_u_of, mod_s_of, shl_of, shr_u_of, shr_s_of, eq_of, lt_u_of, lt_s_of, red_and_of, red_or_of, red_xor_of}
 use Rattle.bit_ops.specs.declared.value.TheConstants.{MAX_WIDTH}
 use Rattle.sv_base.specs.declared.operator.Unary.{Unary}
@@ -31,15 +31,14 @@ arithmetic_right n s a b = if s then shr_s_of n a b else shr_u_of n a b
 abbrev pub raised_to : ℕ → ℕ → ℕ → ℕ
 raised_to n a b = a ^ b % 2 ^ n
 
--- so many powers of two, of those from 1 on, are below a number
-abbrev pub powers_below : ℕ → ℕ → ℕ
-powers_below a zero = 0
-powers_below a (suc k) = powers_below a k + (if nat_lt (2 ^ k) a then 1 else 0)
+-- the least of so many numbers from k on that passes a test, else the one behind them
+unfoldable pub least_from : (ℕ → Bool) → ℕ → ℕ → ℕ
+least_from test k zero = k
+least_from test k (suc n) = if test k then k else least_from test (k + 1) n
 
--- The logarithm to the base 2, rounded up, of a number of at most the greatest width: as many powers of two as are below it. Of 0 it
--- is 0 (20.8.1).
+-- the logarithm to the base 2, rounded up, of a number of at most the greatest width: the least k with a ≤ 2 ^ k (20.8.1)
 abbrev pub logarithm : ℕ → ℕ
-logarithm a = powers_below a MAX_WIDTH
+logarithm a = least_from (λ k. nat_le a (2 ^ k)) 0 MAX_WIDTH
 
 -- the operators before an operand (11.4.3, 11.4.7 to 11.4.9)
 abbrev pub unary_by : Unary → Meaning → Meaning

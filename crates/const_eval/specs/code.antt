@@ -1,4 +1,2 @@
-pub mod WholeNumbers
 pub mod Waiting
-pub mod Shapes
 pub mod Agreeing

@@ -5,8 +5,8 @@ ghost use Rattle.const_eval.specs.Meaning as meaning;
 ghost use Rattle.const_eval.specs.Meaning.{Meaning};
 ghost use Rattle.const_eval.specs.Operators as operators;
 ghost use Rattle.const_eval.specs.Expressions as spec;
-ghost use Rattle.const_eval.specs.code.Waiting as waiting;
-ghost use Rattle.const_eval.specs.code.Shapes as shapes;
+ghost use Rattle.const_eval.specs.Operations as operations;
+ghost use Rattle.const_eval.specs.Shapes as shapes;
 ghost use Rattle.const_eval.specs.code.Agreeing.{Agrees, Matches};
 
 use crate::fault::ConstFault;
@@ -25,7 +25,7 @@ use sv_base::{Binary, Function, Kind, Unary};
 /// What is done to an operand in its context.
 fn changed(alloc: Global, change: Change, a: Measured) -> Result<Measured, AllocError>
     ensures { (m : Meaning) → Matches a m
-        → IfOk result (λ r. Matches r (meaning.each_bit (waiting.changed_by change) m)) }
+        → IfOk result (λ r. Matches r (meaning.each_bit (operations.changed_by change) m)) }
 {
     let Measured {
         size,
@@ -82,7 +82,7 @@ fn combined(
     b: Measured,
 ) -> Result<Measured, AllocError>
     ensures { (m n : Meaning) → Matches a m → Matches b n
-        → IfOk result (λ r. Matches r (meaning.combined (waiting.combined_by operation) m n)) }
+        → IfOk result (λ r. Matches r (meaning.combined (operations.combined_by operation) m n)) }
 {
     Ok(Measured {
         size: a.size.max(b.size),
@@ -143,7 +143,7 @@ pub fn moved(
     b: &Measured,
 ) -> Result<Measured, AllocError>
     ensures { (m n : Meaning) → Matches a m → Matches b.now n
-        → IfOk result (λ r. Matches r (meaning.moved (waiting.moved_by movement) m n)) }
+        → IfOk result (λ r. Matches r (meaning.moved (operations.moved_by movement) m n)) }
 {
     let amount = b.own().word;
     let Measured {

@@ -14,7 +14,7 @@ use sv_ast::Expr;
 /// 1800-2017, 11.2.1, 11.6 to 11.8), or its first refusal, from left to right, parts before the whole:
 /// UnknownName for a name that is not visible, NotConstant for a net or variable, TooWide for more than
 /// `MAX_WIDTH` bits, BadRange for a width or count below 1 or a negative exponent. Takes time linear in the
-/// expression times the number of visible names.
+/// expression, however many names are visible.
 pub fn constant(alloc: Global, e: &Expr, env: &Env) -> Result<Const, ConstFault>
     ensures value { IfOk result (IsConstant (constant_of env.now e.now)) }
     ensures refused { IfErr result (IfRefused (λ refusal. constant_of env.now e.now ≡ Err refusal)) }

@@ -45,8 +45,8 @@ pub fn concatenation(alloc: Global, place: Place, joined: Joined) -> Result<Meas
     }
 }
 
-/// So many copies of a value, at least one.
-fn copies(count: u32, bits: Bits) -> Bits
+/// So many copies of a value, at least one, joined.
+pub fn copies(count: u32, bits: Bits) -> Bits
     requires some { 1 ≤ count }
     requires fits { count * bits.width ≤ MAX_WIDTH }
     ensures width { result.width ≡ count * bits.width }

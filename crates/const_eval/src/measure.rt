@@ -1,9 +1,9 @@
 //! From an expression to its size, its sign and its value.
 
-ghost use Rattle.std.specs.Prelude.{◌≡◌, true, map, IfOk};
+ghost use Rattle.std.specs.Prelude.{◌≡◌, true, map};
 ghost use Rattle.const_eval.specs.Constant.{constant_of, names_of, constant_named};
 ghost use Rattle.const_eval.specs.Expressions as spec;
-ghost use Rattle.const_eval.specs.code.Agreeing.{Agrees, Matches, IsJoined, ArePositions, place_of};
+ghost use Rattle.const_eval.specs.code.Agreeing.{Agrees, Matches, IsJoined, ArePositions};
 
 use crate::apply::{binary_by, chosen, function_by, unary_by};
 use crate::env::Env;
@@ -20,7 +20,7 @@ use crate::select::{take, whole};
 use crate::taking::Taking;
 use std::alloc::Global;
 use sv_ast::{Expr, Id, Sel};
-use sv_base::Kind;
+use sv_base::{Kind, Place};
 
 /// What an expression is by itself, or its first refusal.
 #[cycle(measuring)]
@@ -99,7 +99,7 @@ fn read(
     selects: &[Sel],
 ) -> Result<Measured, ConstFault>
     ensures { Agrees Matches result
-        (spec.selected (map (spec.select_of (names_of env.now.names)) selects.now) true
+        (spec.selected (map (spec.select_of (names_of env.now)) selects.now) true
         (constant_named constant.value constant.low) name.now) }
 {
     match selects {
@@ -107,8 +107,8 @@ fn read(
         [only] => select(alloc, env, name, constant, only),
         [first, second, ..] => {
             let _ = positions(alloc, env, first)?;
-            let taking = positions(alloc, env, second)?;
-            Err(second_select(alloc, taking.place())?)
+            let _ = positions(alloc, env, second)?;
+            Err(second_select(alloc, place_of(second))?)
         }
     }
 }
@@ -123,40 +123,50 @@ fn select(
     select: &Sel,
 ) -> Result<Measured, ConstFault>
     ensures { Agrees Matches result
-        (spec.selected_by (spec.select_of (names_of env.now.names) select.now) true
+        (spec.selected_by (spec.select_of (names_of env.now) select.now) true
         (constant_named constant.value constant.low) name.now) }
 {
     let taking = positions(alloc, env, select)?;
     take(alloc, &taking, constant, name)
 }
 
-/// A select with its positions.
-#[cycle(measuring)]
-fn positions(alloc: Global, env: &Env, select: &Sel) -> Result<Taking, ConstFault>
-    ensures place { IfOk result
-        (λ taking. place_of taking ≡ (spec.select_of (names_of env.now.names) select.now).place) }
-    ensures positions { Agrees ArePositions result
-        ((spec.select_of (names_of env.now.names) select.now).positions true) }
+/// Where the `[` of a select stands.
+fn place_of(select: &Sel) -> Place
+    ensures { (names : spec.Names) → result ≡ (spec.select_of names select.now).place }
 {
     match select {
-        Sel::Bit(place, at) => {
+        Sel::Bit(place, _)
+        | Sel::Part(place, _, _)
+        | Sel::Up(place, _, _)
+        | Sel::Down(place, _, _) => *place,
+    }
+}
+
+/// The positions of a select.
+#[cycle(measuring)]
+fn positions(alloc: Global, env: &Env, select: &Sel) -> Result<Taking, ConstFault>
+    ensures { Agrees ArePositions result
+        ((spec.select_of (names_of env.now) select.now).positions true) }
+{
+    match select {
+        Sel::Bit(_, at) => {
             let at = measure(alloc, env, at.get())?;
-            Ok(Taking::At(*place, at))
+            Ok(Taking::At(at))
         }
-        Sel::Part(place, high, low) => {
+        Sel::Part(_, high, low) => {
             let high = measure(alloc, env, high.get())?;
             let low = measure(alloc, env, low.get())?;
-            Ok(Taking::DownTo(*place, high, low))
+            Ok(Taking::DownTo(high, low))
         }
-        Sel::Up(place, at, width) => {
+        Sel::Up(_, at, width) => {
             let at = measure(alloc, env, at.get())?;
             let width = measure(alloc, env, width.get())?;
-            Ok(Taking::UpFrom(*place, at, width))
+            Ok(Taking::UpFrom(at, width))
         }
-        Sel::Down(place, at, width) => {
+        Sel::Down(_, at, width) => {
             let at = measure(alloc, env, at.get())?;
             let width = measure(alloc, env, width.get())?;
-            Ok(Taking::DownFrom(*place, at, width))
+            Ok(Taking::DownFrom(at, width))
         }
     }
 }
@@ -164,7 +174,7 @@ fn positions(alloc: Global, env: &Env, select: &Sel) -> Result<Taking, ConstFaul
 /// Parts, joined.
 #[cycle(measuring)]
 fn join(alloc: Global, env: &Env, parts: &[Expr]) -> Result<Joined, ConstFault>
-    ensures { Agrees IsJoined result (spec.meanings_of (names_of env.now.names) true parts.now) }
+    ensures { Agrees IsJoined result (spec.meanings_of (names_of env.now) true parts.now) }
 {
     let mut joined = Joined::Nothing;
     for part in parts {

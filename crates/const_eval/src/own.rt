@@ -3,9 +3,10 @@
 ghost use Rattle.std.specs.Prelude.{◌≡◌};
 ghost use Rattle.const_eval.specs.Meaning as meaning;
 ghost use Rattle.const_eval.specs.code.Waiting.{value_of};
-ghost use Rattle.const_eval.specs.code.WholeNumbers.{integer_of};
+ghost use Rattle.const_eval.specs.WholeNumbers.{integer_of};
 ghost use Rattle.const_eval.specs.code.Agreeing.{Matches, number_in};
 
+use crate::env::Const;
 use crate::measured::Measured;
 use crate::pending::{Pending, evaluate};
 use crate::whole_number::WholeNumber;
@@ -24,12 +25,11 @@ impl Measured {
     pub fn number(&self) -> WholeNumber
         ensures { integer_of result ≡ number_in self.now }
     {
-        let own = self.own();
-        if self.signed && own.is_negative() {
-            WholeNumber::Negative(bit_ops::bit_not(own).word)
-        } else {
-            WholeNumber::NotNegative(own.word)
-        }
+        let own = Const {
+            value: self.own(),
+            signed: self.signed,
+        };
+        own.number()
     }
 
     /// Whether the value is another than 0.

@@ -3,7 +3,8 @@
 ghost use Rattle.std.specs.Prelude.{◌≡◌, ◌≤◌, ◌-◌, ◌^◌, if◌then◌else◌};
 ghost use Rattle.bit_ops.specs.Width.{IsWidth};
 ghost use Rattle.const_eval.specs.Meaning.{extended};
-ghost use Rattle.const_eval.specs.code.Waiting.{changed_by, combined_by, moved_by, value_of, least_size};
+ghost use Rattle.const_eval.specs.Operations.{changed_by, combined_by, moved_by};
+ghost use Rattle.const_eval.specs.code.Waiting.{value_of, least_size};
 
 use crate::power::raised_to;
 use bit_ops::{Bits, Word};

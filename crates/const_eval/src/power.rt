@@ -23,15 +23,14 @@ pub fn raised_to(a: Bits, exponent: Word) -> Bits
     result
 }
 
-/// The logarithm to the base 2, rounded up; 0 of 0.
+/// The logarithm to the base 2, rounded up: the least k with `a` at most 2 to the power k.
 pub fn logarithm(a: Word) -> u32
     ensures { result ≡ logarithm a }
 {
-    let mut count = 0;
     for k in 0..MAX_WIDTH {
-        if (1 << k) < a {
-            count += 1;
+        if a <= (1 << k) {
+            return k;
         }
     }
-    count
+    MAX_WIDTH
 }

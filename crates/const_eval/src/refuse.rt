@@ -46,16 +46,16 @@ pub fn second_select(alloc: Global, place: Place) -> Result<ConstFault, AllocErr
     }))
 }
 
-/// A count as the width of a part of a name, whose `[` stands at a place.
-pub fn part_width(alloc: Global, name: &Id, place: Place, width: Word) -> Result<u32, ConstFault>
+/// A count as the width of a part of a name.
+pub fn part_width(alloc: Global, name: &Id, width: Word) -> Result<u32, ConstFault>
     ensures width { IfOk result IsWidth }
     ensures told { Agrees (λ w n. w ≡ n) result
-        (spec.as_width (spec.refused_at BadRange name.now) place (pos width)) }
+        (spec.as_width (spec.refused_at BadRange name.now) name.now.place (pos width)) }
 {
     if width == 0 {
         Err(refused_at(alloc, Kind::BadRange, name)?)
     } else if width > Word::from(MAX_WIDTH) {
-        Err(unnamed_at(alloc, Kind::TooWide, place))
+        Err(unnamed_at(alloc, Kind::TooWide, name.place))
     } else {
         Ok(width as u32)
     }

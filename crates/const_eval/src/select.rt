@@ -3,10 +3,10 @@
 ghost use Rattle.std.specs.Prelude.{◌≡◌, true, pos, ◌*◌, ◌/◌, ◌%◌, ◌^◌, ◌-ℤ◌};
 ghost use Rattle.bit_ops.specs.Width.{IsWidth};
 ghost use Rattle.const_eval.specs.Selects as selects;
-ghost use Rattle.const_eval.specs.code.WholeNumbers.{integer_of};
+ghost use Rattle.const_eval.specs.WholeNumbers.{integer_of};
 ghost use Rattle.const_eval.specs.Constant.{constant_named};
 ghost use Rattle.const_eval.specs.Expressions as spec;
-ghost use Rattle.const_eval.specs.code.Agreeing.{Agrees, Matches, ArePositions, place_of};
+ghost use Rattle.const_eval.specs.code.Agreeing.{Agrees, Matches, ArePositions};
 
 use crate::fault::ConstFault;
 use crate::measured::Measured;
@@ -45,8 +45,8 @@ fn bits_below(word: Word, places: Word, width: u32) -> Bits
     }
 }
 
-/// The bits of a word from so many places below a position on.
-fn bits_from(word: Word, position: WholeNumber, down: Word, width: u32) -> Bits
+/// The bits of a word from so many places below a position on; a bit that it doesn't have is 0 (11.5.1).
+pub fn bits_from(word: Word, position: WholeNumber, down: Word, width: u32) -> Bits
     requires { IsWidth width }
     ensures width { result.width ≡ width }
     ensures word { result.word ≡ selects.bits_from (integer_of position -ℤ pos down) width word }
@@ -89,21 +89,21 @@ pub fn take(
 ) -> Result<Measured, ConstFault>
     ensures { (positions : spec.Positions) → ArePositions taking.now positions
         → Agrees Matches result
-        (spec.take (place_of taking.now) positions (constant_named constant.value constant.low) name.now) }
+        (spec.take positions (constant_named constant.value constant.low) name.now) }
 {
     match taking {
-        Taking::At(_, at) => Ok(part(constant, at.number(), 0, 1)),
-        Taking::DownTo(place, high, low) => {
+        Taking::At(at) => Ok(part(constant, at.number(), 0, 1)),
+        Taking::DownTo(high, low) => {
             let low = low.number();
-            let width = part_width(alloc, name, *place, span(high.number(), low))?;
+            let width = part_width(alloc, name, span(high.number(), low))?;
             Ok(part(constant, low, 0, width))
         }
-        Taking::UpFrom(place, at, width) => {
-            let width = part_width(alloc, name, *place, width.number().count())?;
+        Taking::UpFrom(at, width) => {
+            let width = part_width(alloc, name, width.number().count())?;
             Ok(part(constant, at.number(), 0, width))
         }
-        Taking::DownFrom(place, at, width) => {
-            let width = part_width(alloc, name, *place, width.number().count())?;
+        Taking::DownFrom(at, width) => {
+            let width = part_width(alloc, name, width.number().count())?;
             Ok(part(constant, at.number(), width - 1, width))
         }
     }

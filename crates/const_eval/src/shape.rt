@@ -2,7 +2,7 @@
 
 ghost use Rattle.std.specs.Prelude.{◌≡◌};
 ghost use Rattle.const_eval.specs.Operators.{unary_by, binary_by};
-ghost use Rattle.const_eval.specs.code.Shapes.{unary_meaning, binary_meaning};
+ghost use Rattle.const_eval.specs.Shapes.{unary_meaning, binary_meaning};
 
 use crate::pending::{Change, Movement, Operation};
 use sv_base::{Binary, Unary};

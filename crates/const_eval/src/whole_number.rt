@@ -2,7 +2,7 @@
 
 ghost use Rattle.std.specs.Prelude.{◌≡◌, ◌+◌, ◌-◌, ◌^◌, min, pos, ◌+ℤ◌, ◌-ℤ◌, int_lt};
 ghost use Rattle.bit_ops.specs.declared.value.TheConstants.{MAX_WIDTH};
-ghost use Rattle.const_eval.specs.code.WholeNumbers.{integer_of, count_of};
+ghost use Rattle.const_eval.specs.WholeNumbers.{integer_of, count_of};
 
 use bit_ops::Word;
 

@@ -1,11 +1,11 @@
 use bit_ops::{Bits, MAX_WIDTH, Word};
-use const_eval::{Const, ConstFault, Env, EnvName, constant};
+use const_eval::{Bound, Const, ConstFault, Env, WholeNumber, constant};
 use expr_parser::{ParseFault, parse_expr};
 use std::alloc::{AllocError, Global};
 use std::process::Abort;
 use std::test::Fail;
 use sv_ast::Expr;
-use sv_base::{Name, Refusal, Sequence};
+use sv_base::{Name, Refusal};
 use sv_lexer::{Token, lex};
 
 /// Expressions, each with its size, `s` or `u` for its sign, and its value in hexadecimal, or with its refusal: the line where
@@ -73,7 +73,7 @@ const NUMBERS_AND_NAMES: [(&str, &str); 64] = [
     ("P[v:zz]", "NotConstant v"),
     ("P[0 +: v]", "NotConstant v"),
     ("1 +\nzz", "2: UnknownName zz"),
-    ("P\n[64:0]", "2: TooWide"),
+    ("1 +\nP\n[64:0]", "2: TooWide"),
     ("P\n[3:5]", "BadRange P"),
 ];
 
@@ -228,6 +228,16 @@ const PARTS_AND_FUNCTIONS: [(&str, &str); 35] = [
     ("$clog2(v)", "NotConstant v"),
 ];
 
+/// Constants: each with its name, width, word and sign, and the lowest position of its range.
+const CONSTANTS: [(&str, u32, Word, bool, u32); 6] = [
+    ("P", 3, 5, false, 0),
+    ("Q", 8, 0xa5, false, 4),
+    ("S", 4, 8, true, 0),
+    ("W", 32, 5, true, 0),
+    ("D", 1, 0, false, 0),
+    ("D", 1, 1, false, 0),
+];
+
 /// A constant of a width that a value may have, which is told of the widths here.
 fn value(rt: &impl Abort, width: u32, word: Word, signed: bool) -> Const {
     assert!(rt; width >= 1 && width <= MAX_WIDTH);
@@ -237,25 +247,21 @@ fn value(rt: &impl Abort, width: u32, word: Word, signed: bool) -> Const {
     }
 }
 
-fn entry(alloc: Global, name: &str, value: Option<Const>, low: u32) -> Result<EnvName, AllocError> {
-    Ok(EnvName {
-        name: Name::of(alloc, name.as_bytes())?,
-        value,
-        low,
-    })
+fn declare(alloc: Global, env: &mut Env, text: &str, bound: Bound) -> Result<(), AllocError> {
+    let name = Name::of(alloc, text.as_bytes())?;
+    env.declare(alloc, &name, bound)?;
+    Ok(())
 }
 
-/// `P` of 3 bits, `Q` with the range `[11:4]`, `S` that is -8, `W` as an `int`, `D` with two entries, and the net `v`.
+/// The names of `CONSTANTS`, of which of two alike the later one counts, and the net `v`.
 fn names(rt: &impl Abort, alloc: Global) -> Result<Env, AllocError> {
-    let mut names = Sequence::new(alloc);
-    names.push(entry(alloc, "P", Some(value(rt, 3, 5, false)), 0)?)?;
-    names.push(entry(alloc, "Q", Some(value(rt, 8, 0xa5, false)), 4)?)?;
-    names.push(entry(alloc, "S", Some(value(rt, 4, 8, true)), 0)?)?;
-    names.push(entry(alloc, "W", Some(value(rt, 32, 5, true)), 0)?)?;
-    names.push(entry(alloc, "D", Some(value(rt, 1, 0, false)), 0)?)?;
-    names.push(entry(alloc, "v", None, 0)?)?;
-    names.push(entry(alloc, "D", Some(value(rt, 1, 1, false)), 0)?)?;
-    Ok(Env { names })
+    let mut env = Env::new(alloc);
+    for (name, width, word, signed, low) in CONSTANTS {
+        let value = value(rt, width, word, signed);
+        declare(alloc, &mut env, name, Bound::Constant { value, low })?;
+    }
+    declare(alloc, &mut env, "v", Bound::Variable(0))?;
+    Ok(env)
 }
 
 /// What a constant is, as a row says it.
@@ -305,11 +311,16 @@ fn told(alloc: Global, tree: &Expr, env: &Env) -> Result<String, AllocError> {
     }
 }
 
-fn outcome(rt: &impl Abort, alloc: Global, text: &str) -> Result<String, Fail> {
+/// What an expression is among these names, as a row says it.
+fn shown(alloc: Global, text: &str, env: &Env) -> Result<String, Fail> {
     let tokens = tokens_of(alloc, text)?;
     let tree = tree_of(alloc, &tokens)?;
+    Ok(told(alloc, &tree, env)?)
+}
+
+fn outcome(rt: &impl Abort, alloc: Global, text: &str) -> Result<String, Fail> {
     let env = names(rt, alloc)?;
-    Ok(told(alloc, &tree, &env)?)
+    shown(alloc, text, &env)
 }
 
 fn each_is_told(rt: &impl Abort, alloc: Global, rows: &[(&str, &str)]) -> Result<(), Fail> {
@@ -343,4 +354,38 @@ fn powers_and_choices(rt: HostRuntime) -> Result<(), Fail> {
 #[test]
 fn parts_and_functions(rt: HostRuntime) -> Result<(), Fail> {
     each_is_told(&rt, rt.alloc(), &PARTS_AND_FUNCTIONS)
+}
+
+/// `P` stands for a net, then for what it stood for before, and then for nothing.
+fn restored(rt: &impl Abort, alloc: Global, env: &mut Env) -> Result<(), Fail> {
+    let name = Name::of(alloc, b"P")?;
+    let before = env.declare(alloc, &name, Bound::Variable(7))?;
+    assert_eq!(rt; shown(alloc, "P", env)?.as_str(), "NotConstant P");
+    env.restore(&name, before);
+    assert_eq!(rt; shown(alloc, "P", env)?.as_str(), "3 u 5");
+    assert!(rt; env.bound(&name).is_some());
+    env.restore(&name, None);
+    assert_eq!(rt; shown(alloc, "P", env)?.as_str(), "UnknownName P");
+    assert_eq!(rt; shown(alloc, "Q", env)?.as_str(), "8 u a5");
+    Ok(())
+}
+
+#[test]
+fn names_are_restored(rt: HostRuntime) -> Result<(), Fail> {
+    let mut env = names(&rt, rt.alloc())?;
+    restored(&rt, rt.alloc(), &mut env)
+}
+
+/// The whole numbers that constants stand for.
+#[test]
+fn numbers_of_constants(rt: HostRuntime) {
+    assert_eq!(rt; value(&rt, 4, 8, true).number(), WholeNumber::Negative(7));
+    assert_eq!(rt;
+        value(&rt, 4, 8, false).number(),
+        WholeNumber::NotNegative(8)
+    );
+    assert_eq!(rt;
+        value(&rt, 4, 7, true).number(),
+        WholeNumber::NotNegative(7)
+    );
 }

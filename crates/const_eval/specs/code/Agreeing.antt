@@ -3,7 +3,6 @@ use Rattle.std.specs.Prelude.{◌≡◌, ℕ, ◌≤◌, ◌<◌, Bool, List, []
 use Rattle.bit_ops.specs.Meaning.{signed_of}
 use Rattle.bit_ops.specs.declared.value.TheConstants.{MAX_WIDTH}
 use Rattle.sv_base.specs.declared.refusal.Refusal.{Refusal}
-use Rattle.sv_base.specs.declared.refusal.Place.{Place}
 use Rattle.sv_base.specs.declared.fault.Fault.{Fault}
 use Rattle.sv_base.specs.Faults.{IfRefused}
 use Rattle.const_eval.specs.declared.env.Const.{Const}
@@ -53,15 +52,8 @@ IsNamed c named = named ≡ constant_named c.value c.low
 
 -- the positions of a select that were measured
 abbrev pub ArePositions : Taking → Positions → Type 0
-ArePositions (taking.At place a) (At p) = Matches a p
-ArePositions (taking.DownTo place a b) (DownTo high low) = Matches a high × Matches b low
-ArePositions (taking.UpFrom place a b) (UpFrom p width) = Matches a p × Matches b width
-ArePositions (taking.DownFrom place a b) (DownFrom p width) = Matches a p × Matches b width
+ArePositions (taking.At a) (At p) = Matches a p
+ArePositions (taking.DownTo a b) (DownTo high low) = Matches a high × Matches b low
+ArePositions (taking.UpFrom a b) (UpFrom p width) = Matches a p × Matches b width
+ArePositions (taking.DownFrom a b) (DownFrom p width) = Matches a p × Matches b width
 ArePositions _ _ = ⊥
-
--- where the `[` of a select stands
-abbrev pub place_of : Taking → Place
-place_of (taking.At place a) = place
-place_of (taking.DownTo place a b) = place
-place_of (taking.UpFrom place a b) = place
-place_of (taking.DownFrom place a b) = place

@@ -1,39 +1,11 @@
 -- Values that wait for the size and the sign of their context.
 use Rattle.std.specs.Prelude.{ℕ, ◌^◌, ◌-◌, Bool, max, if◌then◌else◌}
-use Rattle.bit_ops.specs.Meaning.{neg_of, not_of, and_of, or_of, xor_of, add_of, sub_of, mul_of, shl_of, shr_u_of}
 use Rattle.const_eval.specs.declared.pending.Pending.{Pending}
 use Rattle.const_eval.specs.declared.pending.Pending.TheOpen as pending
 use Rattle.const_eval.specs.declared.pending.Pending.TheOpen.{Pending-F}
 use Rattle.const_eval.specs.declared.pending.Pending.TheFolds.{fold-Pending}
-use Rattle.const_eval.specs.declared.pending.Change.{Change}
-use Rattle.const_eval.specs.declared.pending.Change.TheVariants.{Negate, Invert}
-use Rattle.const_eval.specs.declared.pending.Operation.{Operation}
-use Rattle.const_eval.specs.declared.pending.Operation.TheVariants.{Add, Subtract, Multiply, Divide, Remainder, And, Or, Xor, Xnor}
-use Rattle.const_eval.specs.declared.pending.Movement.{Movement}
-use Rattle.const_eval.specs.declared.pending.Movement.TheVariants.{Left, Right, ArithmeticRight, Power}
 use Rattle.const_eval.specs.Meaning.{extended}
-use Rattle.const_eval.specs.Operators.{quotient, remainder, arithmetic_right, raised_to}
-
-abbrev pub changed_by : Change → ℕ → ℕ → ℕ
-changed_by Negate = neg_of
-changed_by Invert = not_of
-
-abbrev pub combined_by : Operation → ℕ → Bool → ℕ → ℕ → ℕ
-combined_by Add n s = add_of n
-combined_by Subtract n s = sub_of n
-combined_by Multiply n s = mul_of n
-combined_by Divide n s = quotient n s
-combined_by Remainder n s = remainder n s
-combined_by And n s = and_of
-combined_by Or n s = or_of
-combined_by Xor n s = xor_of
-combined_by Xnor n s = λ a b. not_of n (xor_of a b)
-
-abbrev pub moved_by : Movement → ℕ → Bool → ℕ → ℕ → ℕ
-moved_by Left n s = shl_of n
-moved_by Right n s = shr_u_of n
-moved_by ArithmeticRight n s = arithmetic_right n s
-moved_by Power n s = raised_to n
+use Rattle.const_eval.specs.Operations.{changed_by, combined_by, moved_by}
 
 -- what a pending value is in a context, from what its parts are
 abbrev pub value_layer : Pending-F (ℕ → Bool → ℕ) → ℕ → Bool → ℕ

@@ -1,5 +1,5 @@
 use Rattle.std.proofs.Common.{◌≡◌, ◌∙◌, sym, int_lt, pos, false}
-use Rattle.const_eval.specs.code.WholeNumbers.{integer_of}
+use Rattle.const_eval.specs.WholeNumbers.{integer_of}
 use Rattle.const_eval.proofs.Judging.{not_negative}
 use Rattle.const_eval.proofs.apply.raised.Goals as goal
 

@@ -1,6 +1,6 @@
 use Rattle.std.proofs.Common.{◌≡◌, ◌*◌, ◌<◌, ◌≤◌, ◌∙◌, arith, refl, ap}
 use Rattle.bit_ops.specs.declared.value.TheConstants.{MAX_WIDTH}
-use Rattle.const_eval.specs.code.WholeNumbers.{count_of}
+use Rattle.const_eval.specs.WholeNumbers.{count_of}
 use Rattle.const_eval.specs.Meaning.{number}
 use Rattle.const_eval.specs.Selects.{total}
 use Rattle.const_eval.proofs.Counts.{many_wide, too_often}

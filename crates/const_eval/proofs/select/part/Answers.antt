@@ -1,6 +1,6 @@
 use Rattle.std.proofs.Common.{◌∙◌, ap}
 use Rattle.const_eval.specs.Selects as selects
-use Rattle.const_eval.specs.code.WholeNumbers.{integer_of}
+use Rattle.const_eval.specs.WholeNumbers.{integer_of}
 use Rattle.const_eval.proofs.Selecting.{both_down}
 use Rattle.const_eval.proofs.select.part.Goals as goal
 

@@ -11,13 +11,15 @@ use Rattle.const_eval.specs.declared.shape.BinaryShape.{BinaryShape}
 use Rattle.const_eval.specs.declared.shape.BinaryShape.TheVariants as binary
 use Rattle.const_eval.specs.Meaning.{Meaning, holds, flag, each_bit, reduced, combined, compared, moved}
 use Rattle.const_eval.specs.Operators.{opposite, less}
-use Rattle.const_eval.specs.code.Waiting.{changed_by, combined_by, moved_by}
+use Rattle.const_eval.specs.Operations.{changed_by, combined_by, moved_by}
 
+-- what a reduction makes of the bits of an operand
 abbrev pub reduced_by : Reduction → ℕ → ℕ → ℕ
 reduced_by reduction.And w a = red_and_of w a
 reduced_by reduction.Or w a = red_or_of a
 reduced_by reduction.Xor w a = red_xor_of a
 
+-- the bit of a comparison of two operands of so many bits, signed or not
 abbrev pub compared_by : Comparison → ℕ → Bool → ℕ → ℕ → ℕ
 compared_by Equal n s a b = eq_of a b
 compared_by Less n s a b = less n s a b
@@ -28,12 +30,14 @@ abbrev pub turned : Bool → ℕ → ℕ
 turned true bit = opposite bit
 turned false bit = bit
 
+-- what an operator of a shape makes of the meaning of its operand
 abbrev pub unary_meaning : UnaryShape → Meaning → Meaning
 unary_meaning unary.Same = λ a. a
 unary_meaning (unary.Change change) = each_bit (changed_by change)
 unary_meaning unary.LogicalNot = λ a. flag (not (holds a))
 unary_meaning (unary.Reduction reduction turn) = reduced (λ w a. turned turn (reduced_by reduction w a))
 
+-- what an operator of a shape makes of the meanings of its operands
 abbrev pub binary_meaning : BinaryShape → Meaning → Meaning → Meaning
 binary_meaning (binary.Operation operation) = combined (combined_by operation)
 binary_meaning (binary.Comparison comparison turn) = compared (λ n s a b. turned turn (compared_by comparison n s a b))
