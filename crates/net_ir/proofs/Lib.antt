@@ -3,3 +3,4 @@ pub mod Ports
 pub mod Benches
 pub mod Marking
 pub mod Worked
+mod Values

@@ -6,8 +6,8 @@ use Rattle.std.proofs.lemmas.Bool.Decides.{nat_tests}
 use Rattle.std.proofs.lemmas.List.{get_or-set_same, get_or-set_other, drop_all, length-set, length-replicate}
 use Rattle.std.proofs.lemmas.List.Folds.{flat_map-map}
 use Rattle.bit_ops.specs.declared.operation.Op.{Op}
-use Rattle.net_ir.specs.declared.term.Term.{Term, Apply}
-use Rattle.net_ir.specs.declared.term.Term.TheVariants.{outs-Apply}
+use Rattle.net_ir.specs.declared.term.Term.{Term, Pick, Apply}
+use Rattle.net_ir.specs.declared.term.Term.TheVariants.{outs-Pick, outs-Apply}
 use Rattle.net_ir.specs.declared.term.Term.TheFolds.{map-Term, fold_out-Term}
 use Rattle.net_ir.specs.declared.statement.Stmt.{Stmt, Block}
 use Rattle.net_ir.specs.declared.statement.Stmt.TheVariants.{outs-Block}
@@ -25,6 +25,12 @@ reads_apply op width lo args =
     ∙ ap (λ x. reads_of_layer (map-Term Term (List ℕ) reads_of x)) (outs-Apply op width lo args)
     ∙ flat_map-map (λ (reads : List ℕ). reads) reads_of args
 
+pub reads_pick : (base : Term) (low : ℕ) (at : Term) (at_signed down : Bool) (width : ℕ) →
+    reads_of (Pick base low at at_signed down width) ≡ reads_of base ++ reads_of at
+reads_pick base low at at_signed down width =
+    fold_out-Term (List ℕ) reads_of_layer (Pick base low at at_signed down width)
+    ∙ ap (λ x. reads_of_layer (map-Term Term (List ℕ) reads_of x)) (outs-Pick base low at at_signed down width)
+
 pub block_reads : (parts : List Stmt) → statement_reads (Block parts) ≡ flat_map statement_reads parts
 block_reads parts =
     fold_out-Stmt (List ℕ) statement_reads_of_layer (Block parts)
@@ -36,7 +42,7 @@ block_reads parts =
 split_items : {X : Type 0} (xs : List X) (i : ℕ) (a : X) → i < length xs → a ≡ get_or xs i a → drop i xs ≡ a ∷ drop (i + 1) xs
 split_items xs i a within is = rw (add-one, drop-cons xs i a within) (ap (λ x. x ∷ drop (suc i) xs) (sym is))
 
-mark_append : (xs ys : List ℕ) (marks : List Bool) → mark_all (xs ++ ys) marks ≡ mark_all ys (mark_all xs marks)
+pub mark_append : (xs ys : List ℕ) (marks : List Bool) → mark_all (xs ++ ys) marks ≡ mark_all ys (mark_all xs marks)
 mark_append [] ys marks = refl
 mark_append (x ∷ xs) ys marks = mark_append xs ys (slice_set marks x true)
 

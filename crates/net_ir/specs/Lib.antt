@@ -1,4 +1,6 @@
 pub mod Value
+pub mod Lawful
+pub mod Terms
 pub mod Statement
 pub mod Drive
 pub mod Face

@@ -1,11 +1,14 @@
 //! Laws of the definitions, each the contract of a function that does nothing.
 
-ghost use Rattle.std.specs.Prelude.{◌≡◌, ℕ, List};
+ghost use Rattle.std.specs.Prelude.{◌≡◌, ◌<◌, ◌^◌, ℕ, List};
 ghost use Rattle.std.specs.List.{AllByRecursion};
 ghost use Rattle.sv_base.specs.Steps.{Step, StepFits};
 ghost use Rattle.sv_base.specs.Runs.{Runs};
 ghost use Rattle.sv_base.specs.Meaning.{State, Plays};
 ghost use Rattle.net_ir.specs.declared.design.Spec.{Spec};
+ghost use Rattle.net_ir.specs.declared.term.Term.{Term};
+ghost use Rattle.net_ir.specs.Value.{AreWordsOf, val, size};
+ghost use Rattle.net_ir.specs.Lawful.{IsLawful};
 ghost use Rattle.net_ir.specs.Face.{ports_of};
 ghost use Rattle.net_ir.specs.Run.{start};
 ghost use Rattle.net_ir.specs.Stepping.{Samples, Follows};
@@ -13,6 +16,13 @@ ghost use Rattle.net_ir.specs.Trace.{Shows, IsTrace};
 ghost use Rattle.net_ir.specs.Facts.{HasOneSolution};
 ghost use Rattle.net_ir.specs.Idle.{IgnoresIdle};
 ghost use Rattle.net_ir.specs.Benched.{meaning_of};
+
+/// The value of a lawful term is a word of its size, where each variable's word is one of its width.
+pub fn lawful_values()
+    ensures { (ws u : List ℕ) (t : Term) → AreWordsOf ws u → IsLawful ws t → val ws u t < 2 ^ size ws t }
+{
+    bit_ops::laws::value_fits();
+}
 
 /// What registers sample is determined.
 pub fn one_sample()

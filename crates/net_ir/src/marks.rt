@@ -92,6 +92,10 @@ fn mark_term(term: &Term, marks: &mut Vec<bool>)
     match term {
         Term::Const(_) => {}
         Term::Read { var, .. } => mark(marks, *var as usize),
+        Term::Pick { base, at, .. } => {
+            mark_term(base.get(), marks);
+            mark_term(at.get(), marks);
+        }
         Term::Apply { args, .. } => {
             for arg in args.as_slice() {
                 mark_term(arg, marks);
