@@ -1,15 +1,15 @@
 -- What lawful terms and whole drivers read: variables that are there.
-use Rattle.std.proofs.Common.{◌≡◌, ℕ, ◌<◌, List, [], ◌∷◌, length, map, sym, ◌∙◌, ap, subst}
+use Rattle.std.proofs.Common.{◌≡◌, ℕ, ◌<◌, Bool, List, [], ◌∷◌, ◌++◌, length, map, sym, ◌∙◌, ap, subst}
 use Rattle.std.specs.List.{AllByRecursion, flat_map}
 use Rattle.std.proofs.lemmas.List.Folds.{flat_map-map}
 use Rattle.bit_ops.specs.declared.operation.Op.{Op}
 use Rattle.bit_ops.specs.declared.value.Bits.{Bits}
 use Rattle.sv_base.specs.declared.refusal.Place.{Place}
-use Rattle.net_ir.specs.declared.term.Term.{Term, Const, Read, Apply}
+use Rattle.net_ir.specs.declared.term.Term.{Term, Const, Read, Pick, Apply}
 use Rattle.net_ir.specs.declared.term.Term.TheOpen as layer
 use Rattle.net_ir.specs.declared.term.Term.TheOpen.{Term-F}
 use Rattle.net_ir.specs.declared.term.Term.TheViews.{roll-Term}
-use Rattle.net_ir.specs.declared.term.Term.TheVariants.{rolls-Const, rolls-Read, rolls-Apply, outs-Const, outs-Read, outs-Apply}
+use Rattle.net_ir.specs.declared.term.Term.TheVariants.{rolls-Const, rolls-Read, rolls-Pick, rolls-Apply, outs-Const, outs-Read, outs-Pick, outs-Apply}
 use Rattle.net_ir.specs.declared.term.Term.TheFolds.{map-Term, fold_out-Term, ind-Term, every_held-Term}
 use Rattle.net_ir.specs.declared.statement.Stmt.{Stmt}
 use Rattle.net_ir.specs.declared.statement.Stmt.TheFolds.{every-Stmt}
@@ -18,9 +18,10 @@ use Rattle.net_ir.specs.declared.design.Driver.TheVariants.{Assign, Clocked}
 use Rattle.net_ir.specs.Value.{reads_of, reads_of_layer}
 use Rattle.net_ir.specs.Statement.{statement_reads}
 use Rattle.net_ir.specs.Drive.{driver_reads}
-use Rattle.plain_run.specs.Plain.{IsLawfulLayer, IsLawful, IsWholeLayer, IsWhole}
-use Rattle.plain_run.proofs.Elements.{all_both, all_flat, all_held}
-use Rattle.plain_run.proofs.Layers.{lawful_read}
+use Rattle.net_ir.specs.Lawful.{IsLawfulLayer, IsLawful}
+use Rattle.plain_run.specs.Plain.{IsWholeLayer, IsWhole}
+use Rattle.plain_run.proofs.Elements.{all_both, all_flat, all_held, all_join}
+use Rattle.plain_run.proofs.Layers.{lawful_read, lawful_pick}
 use Rattle.plain_run.proofs.Statements.{reads_block, reads_assign, every_by_layers, lawful_value}
 
 -- the variables of a list are there
@@ -36,6 +37,12 @@ reads_read : (var : ℕ) (place : Place) → reads_of (Read var place) ≡ var �
 reads_read var place =
     fold_out-Term (List ℕ) reads_of_layer (Read var place) ∙ ap (λ x. reads_of_layer (map-Term Term (List ℕ) reads_of x)) (outs-Read var place)
 
+pub reads_pick : (base : Term) (low : ℕ) (at : Term) (at_signed down : Bool) (width : ℕ) →
+    reads_of (Pick base low at at_signed down width) ≡ reads_of base ++ reads_of at
+reads_pick base low at at_signed down width =
+    fold_out-Term (List ℕ) reads_of_layer (Pick base low at at_signed down width)
+    ∙ ap (λ x. reads_of_layer (map-Term Term (List ℕ) reads_of x)) (outs-Pick base low at at_signed down width)
+
 reads_apply : (op : Op) (width lo : ℕ) (args : List Term) → reads_of (Apply op width lo args) ≡ flat_map reads_of args
 reads_apply op width lo args =
     fold_out-Term (List ℕ) reads_of_layer (Apply op width lo args)
@@ -48,6 +55,7 @@ held_args : (ws : List ℕ) (op : Op) (width lo : ℕ) (args : List Term) (y : T
     (held : List ((t : Term) × IsLawful ws t)) × (map (λ e. e.0) held ≡ args)
 held_args ws op width lo args (layer.Const bits) is = absurd (cc)
 held_args ws op width lo args (layer.Read var place) is = absurd (cc)
+held_args ws op width lo args (layer.Pick base low at at_signed down n) is = absurd (cc)
 held_args ws op width lo args (layer.Apply op' width' lo' held) is = (held, cc)
 
 pub lawful_args : (ws : List ℕ) (op : Op) (width lo : ℕ) (args : List Term) → IsLawful ws (Apply op width lo args) → AllByRecursion (IsLawful ws) args
@@ -64,6 +72,11 @@ there_layer : (ws : List ℕ) (y : Term-F ((t : Term) × ReadsThere ws t)) → R
 there_layer ws (layer.Const bits) = subst (ReadsThere ws) (sym (rolls-Const bits)) (λ lawful. subst (AreThere ws) (sym (reads_const bits)) tt)
 there_layer ws (layer.Read var place) =
     subst (ReadsThere ws) (sym (rolls-Read var place)) (λ lawful. subst (AreThere ws) (sym (reads_read var place)) (lawful_read ws var place lawful, tt))
+there_layer ws (layer.Pick base low at at_signed down width) =
+    subst (ReadsThere ws) (sym (rolls-Pick base.0 low at.0 at_signed down width)) (λ lawful.
+    let parts = lawful_pick ws base.0 low at.0 at_signed down width lawful in
+    subst (AreThere ws) (sym (reads_pick base.0 low at.0 at_signed down width))
+    (all_join (λ x. x < length ws) (reads_of base.0) (reads_of at.0) (base.1 parts.0) (at.1 parts.1)))
 there_layer ws (layer.Apply op width lo held) =
     let args : List Term = map (λ e. e.0) held in
     subst (ReadsThere ws) (sym (rolls-Apply op width lo args)) (λ lawful.

@@ -1,5 +1,5 @@
 -- One layer of a term: what is lawful of it, and what its width and word are.
-use Rattle.std.proofs.Common.{◌≡◌, ℕ, zero, suc, ◌<◌, ◌≤◌, ◌+◌, List, [], ◌∷◌, ◌++◌, length, map, take, take_all, get_or, refl, sym, ◌∙◌, ap, subst, arith, lit≤}
+use Rattle.std.proofs.Common.{◌≡◌, ℕ, zero, suc, ◌<◌, ◌≤◌, ◌+◌, Bool, List, [], ◌∷◌, ◌++◌, length, map, take, take_all, get_or, refl, sym, ◌∙◌, ap, subst, arith, lit≤}
 use Rattle.std.specs.Prelude.{slice_index, slice_set}
 use Rattle.std.proofs.lemmas.List.{length-map, take_more, take_more_set, map-append, get_or-map}
 use Rattle.bit_ops.specs.Width.{IsWidth, OneWidth, TwoWidths, ThreeWidths, WidthsFit}
@@ -8,14 +8,14 @@ use Rattle.bit_ops.specs.declared.value.Bits.{Bits}
 use Rattle.bit_ops.specs.declared.operation.Op.{Op}
 use Rattle.bit_ops.specs.declared.operation.Op.TheVariants as op
 use Rattle.sv_base.specs.declared.refusal.Place.{Place}
-use Rattle.net_ir.specs.declared.term.Term.{Term, Read, Apply}
+use Rattle.net_ir.specs.declared.term.Term.{Term, Read, Pick, Apply}
 use Rattle.net_ir.specs.declared.term.Term.TheOpen as layer
 use Rattle.net_ir.specs.declared.term.Term.TheOpen.{Term-F}
-use Rattle.net_ir.specs.declared.term.Term.TheVariants.{outs-Read, outs-Apply}
+use Rattle.net_ir.specs.declared.term.Term.TheVariants.{outs-Read, outs-Pick, outs-Apply}
 use Rattle.net_ir.specs.declared.term.Term.TheFolds.{map-Term, every_here-Term, every_held-Term, fold_out-Term}
 use Rattle.bit_ops.specs.Lists.{words, widths}
-use Rattle.net_ir.specs.Value.{operands, operand_of_layer, operand_of, size}
-use Rattle.plain_run.specs.Plain.{IsLawfulLayer, IsLawful}
+use Rattle.net_ir.specs.Value.{whole_number, picked, operands, operand_of_layer, operand_of, size}
+use Rattle.net_ir.specs.Lawful.{IsLawfulLayer, IsLawful}
 use Rattle.plain_run.proofs.Terms.{width_is_size}
 
 -- a lawful read is of a variable that is there
@@ -27,6 +27,28 @@ pub lawful_apply : (ws : List ℕ) (op : Op) (width lo : ℕ) (args : List Term)
     IsWidth width × WidthsFit op width lo (map (size ws) args)
 lawful_apply ws op width lo args lawful =
     subst (IsLawfulLayer ws) (outs-Apply op width lo args) (every_here-Term (IsLawfulLayer ws) (Apply op width lo args) lawful)
+
+-- a lawful pick has a width, and its base and its position are lawful
+pick_parts : (ws : List ℕ) (base : Term) (low : ℕ) (at : Term) (at_signed down : Bool) (width : ℕ) (y : Term-F ((t : Term) × IsLawful ws t)) →
+    map-Term ((t : Term) × IsLawful ws t) Term (λ e. e.0) y ≡ layer.Pick base low at at_signed down width → IsLawful ws base × IsLawful ws at
+pick_parts ws base low at at_signed down width (layer.Const bits) is = absurd (cc)
+pick_parts ws base low at at_signed down width (layer.Read var place) is = absurd (cc)
+pick_parts ws base low at at_signed down width (layer.Pick b low' a at_signed' down' width') is = (
+  subst (IsLawful ws) (let same : layer.Pick b.0 low' a.0 at_signed' down' width' ≡ layer.Pick base low at at_signed down width = is in cc) b.1,
+  subst (IsLawful ws) (let same : layer.Pick b.0 low' a.0 at_signed' down' width' ≡ layer.Pick base low at at_signed down width = is in cc) a.1,
+)
+pick_parts ws base low at at_signed down width (layer.Apply op w lo held) is = absurd (cc)
+
+pub lawful_pick : (ws : List ℕ) (base : Term) (low : ℕ) (at : Term) (at_signed down : Bool) (width : ℕ) →
+    IsLawful ws (Pick base low at at_signed down width) → IsLawful ws base × IsLawful ws at
+lawful_pick ws base low at at_signed down width lawful =
+    let all = every_held-Term (IsLawfulLayer ws) (Pick base low at at_signed down width) lawful in
+    pick_parts ws base low at at_signed down width all.0 (all.1 ∙ outs-Pick base low at at_signed down width)
+
+pub pick_width : (ws : List ℕ) (base : Term) (low : ℕ) (at : Term) (at_signed down : Bool) (width : ℕ) →
+    IsLawful ws (Pick base low at at_signed down width) → IsWidth width
+pick_width ws base low at at_signed down width lawful =
+    subst (IsLawfulLayer ws) (outs-Pick base low at at_signed down width) (every_here-Term (IsLawfulLayer ws) (Pick base low at at_signed down width) lawful)
 
 -- each of its operands is lawful
 lawful_at : (ws : List ℕ) (held : List ((t : Term) × IsLawful ws t)) (args : List Term) (k : ℕ) (a : Term) → map (λ e. e.0) held ≡ args → k < length args →
@@ -43,6 +65,7 @@ lawful_held : (ws : List ℕ) (op : Op) (width lo : ℕ) (args : List Term) (y :
     (held : List ((t : Term) × IsLawful ws t)) × (map (λ e. e.0) held ≡ args)
 lawful_held ws op width lo args (layer.Const bits) is = absurd (cc)
 lawful_held ws op width lo args (layer.Read var place) is = absurd (cc)
+lawful_held ws op width lo args (layer.Pick base low at at_signed down n) is = absurd (cc)
 lawful_held ws op width lo args (layer.Apply op' width' lo' held) is = (held, cc)
 
 pub lawful_arg : (ws : List ℕ) (op : Op) (width lo : ℕ) (args : List Term) (k : ℕ) (a : Term) → IsLawful ws (Apply op width lo args) → k < length args →
@@ -105,6 +128,13 @@ pub operand_read : (ws u : List ℕ) (var : ℕ) (place : Place) → operand_of 
 operand_read ws u var place =
     fold_out-Term (ℕ × ℕ) (operand_of_layer ws u) (Read var place)
     ∙ ap (λ x. operand_of_layer ws u (map-Term Term (ℕ × ℕ) (operand_of ws u) x)) (outs-Read var place)
+
+pub operand_pick : (ws u : List ℕ) (base : Term) (low : ℕ) (at : Term) (at_signed down : Bool) (width : ℕ) →
+    operand_of ws u (Pick base low at at_signed down width)
+    ≡ (width, picked (operand_of ws u base).1 low down (whole_number at_signed (operand_of ws u at).0 (operand_of ws u at).1) width)
+operand_pick ws u base low at at_signed down width =
+    fold_out-Term (ℕ × ℕ) (operand_of_layer ws u) (Pick base low at at_signed down width)
+    ∙ ap (λ x. operand_of_layer ws u (map-Term Term (ℕ × ℕ) (operand_of ws u) x)) (outs-Pick base low at at_signed down width)
 
 pub operand_apply : (ws u : List ℕ) (op : Op) (width lo : ℕ) (args : List Term) →
     operand_of ws u (Apply op width lo args) ≡ (width, value_of op width lo (map (operand_of ws u) args))

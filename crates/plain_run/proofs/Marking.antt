@@ -7,8 +7,8 @@ use Rattle.std.proofs.lemmas.List.{get_or-set_same, get_or-set_other, drop_all, 
 use Rattle.std.proofs.lemmas.List.Folds.{list_all-append, flat_map-map}
 use Rattle.std.proofs.lemmas.List.Concat.{flat_map-append}
 use Rattle.bit_ops.specs.declared.operation.Op.{Op}
-use Rattle.net_ir.specs.declared.term.Term.{Term, Apply}
-use Rattle.net_ir.specs.declared.term.Term.TheVariants.{outs-Apply}
+use Rattle.net_ir.specs.declared.term.Term.{Term, Pick, Apply}
+use Rattle.net_ir.specs.declared.term.Term.TheVariants.{outs-Pick, outs-Apply}
 use Rattle.net_ir.specs.declared.term.Term.TheFolds.{map-Term, fold_out-Term}
 use Rattle.net_ir.specs.declared.design.Target.{Target}
 use Rattle.net_ir.specs.declared.statement.Stmt.{Stmt, Block, Assign}
@@ -28,6 +28,12 @@ reads_apply op width lo args =
     fold_out-Term (List ℕ) reads_of_layer (Apply op width lo args)
     ∙ ap (λ x. reads_of_layer (map-Term Term (List ℕ) reads_of x)) (outs-Apply op width lo args)
     ∙ flat_map-map (λ (reads : List ℕ). reads) reads_of args
+
+pub reads_pick : (base : Term) (low : ℕ) (at : Term) (at_signed down : Bool) (width : ℕ) →
+    reads_of (Pick base low at at_signed down width) ≡ reads_of base ++ reads_of at
+reads_pick base low at at_signed down width =
+    fold_out-Term (List ℕ) reads_of_layer (Pick base low at at_signed down width)
+    ∙ ap (λ x. reads_of_layer (map-Term Term (List ℕ) reads_of x)) (outs-Pick base low at at_signed down width)
 
 pub block_targets : (parts : List Stmt) → targets_of (Block parts) ≡ flat_map targets_of parts
 block_targets parts =

@@ -12,11 +12,11 @@ use Rattle.bit_ops.specs.declared.value.Bits.{Bits}
 use Rattle.bit_ops.specs.declared.operation.Op.{Op}
 use Rattle.bit_ops.specs.declared.operation.Op.TheVariants as op
 use Rattle.sv_base.specs.declared.refusal.Place.{Place}
-use Rattle.net_ir.specs.declared.term.Term.{Term, Const, Read, Apply}
+use Rattle.net_ir.specs.declared.term.Term.{Term, Const, Read, Pick, Apply}
 use Rattle.net_ir.specs.declared.term.Term.TheOpen as term
 use Rattle.net_ir.specs.declared.term.Term.TheOpen.{Term-F}
 use Rattle.net_ir.specs.declared.term.Term.TheViews.{roll-Term}
-use Rattle.net_ir.specs.declared.term.Term.TheVariants.{rolls-Const, rolls-Read, rolls-Apply, outs-Read, outs-Apply}
+use Rattle.net_ir.specs.declared.term.Term.TheVariants.{rolls-Const, rolls-Read, rolls-Pick, rolls-Apply, outs-Read, outs-Apply}
 use Rattle.net_ir.specs.declared.term.Term.TheFolds.{map-Term, ind-Term, every_here-Term, every_held-Term, every_made-Term}
 use Rattle.net_ir.specs.declared.statement.Stmt.{Stmt, Block, Assign}
 use Rattle.net_ir.specs.declared.statement.Stmt.TheOpen as stmt
@@ -36,7 +36,9 @@ use Rattle.net_ir.specs.declared.design.Spec.{Spec}
 use Rattle.net_ir.specs.Value.{widths_of, size}
 use Rattle.net_ir.specs.Statement.{targets_of}
 use Rattle.net_ir.specs.Drive.{target_var}
-use Rattle.plain_run.specs.Plain.{IsLawfulLayer, IsLawful, IsWholeTo, IsWholeLayer, IsWhole, AreOrdered, IsPlainTrigger, HasPlainClocks, NamesNoNet, WritesNoNet, IsPlain}
+use Rattle.net_ir.specs.Lawful.{IsLawfulLayer, IsLawful}
+use Rattle.plain_run.proofs.Layers.{lawful_pick, pick_width}
+use Rattle.plain_run.specs.Plain.{IsWholeTo, IsWholeLayer, IsWhole, AreOrdered, IsPlainTrigger, HasPlainClocks, NamesNoNet, WritesNoNet, IsPlain}
 
 -- a proof comes back from the fact that there is one
 abbrev Known : Type 0 → Type 0
@@ -108,6 +110,7 @@ args_held : (ws : List ℕ) (o : Op) (width lo : ℕ) (args : List Term) (y : Te
     map-Term ((t : Term) × IsLawful ws t) Term (λ e. e.0) y ≡ term.Apply o width lo args → AllByRecursion (IsLawful ws) args
 args_held ws o width lo args (term.Const bits) is = absurd (cc)
 args_held ws o width lo args (term.Read var place) is = absurd (cc)
+args_held ws o width lo args (term.Pick base low at at_signed down n) is = absurd (cc)
 args_held ws o width lo args (term.Apply o' width' lo' held) is =
     subst (AllByRecursion (IsLawful ws))
     (let same : term.Apply o' width' lo' (map (λ (e : (t : Term) × IsLawful ws t). e.0) held) ≡ term.Apply o width lo args = is in cc)
@@ -132,6 +135,15 @@ read_known ws var place h =
     (λ lawful. subst (IsLawfulLayer ws) (outs-Read var place) (every_here-Term (IsLawfulLayer ws) (Read var place) lawful)) in
     subst (IsLawful ws) (rolls-Read var place) (every_made-Term (IsLawfulLayer ws) (term.Read var place) (term.Read var place) refl there)
 
+pick_known : (ws : List ℕ) (base : Term) (low : ℕ) (at : Term) (at_signed down : Bool) (width : ℕ) → Known (IsLawful ws base) → Known (IsLawful ws at) →
+    Known (IsLawful ws (Pick base low at at_signed down width))
+pick_known ws base low at at_signed down width known_base known_at h =
+    let here = ∥∥₁_elim h (hlevel props) (λ lawful. pick_width ws base low at at_signed down width lawful) in
+    let first = known_base (∥∥₁_map h (λ lawful. (lawful_pick ws base low at at_signed down width lawful).0)) in
+    let second = known_at (∥∥₁_map h (λ lawful. (lawful_pick ws base low at at_signed down width lawful).1)) in
+    subst (IsLawful ws) (rolls-Pick base low at at_signed down width)
+    (every_made-Term (IsLawfulLayer ws) (term.Pick base low at at_signed down width) (term.Pick (base, first) low (at, second) at_signed down width) refl here)
+
 apply_known : (ws : List ℕ) (o : Op) (width lo : ℕ) (args : List Term) → AllByRecursion (λ t. Known (IsLawful ws t)) args →
     Known (IsLawful ws (Apply o width lo args))
 apply_known ws o width lo args known h =
@@ -144,6 +156,9 @@ layer_known : (ws : List ℕ) (y : Term-F ((t : Term) × Known (IsLawful ws t)))
     Known (IsLawful ws (roll-Term (map-Term ((t : Term) × Known (IsLawful ws t)) Term (λ e. e.0) y)))
 layer_known ws (term.Const bits) = subst (λ t. Known (IsLawful ws t)) (sym (rolls-Const bits)) (const_known ws bits)
 layer_known ws (term.Read var place) = subst (λ t. Known (IsLawful ws t)) (sym (rolls-Read var place)) (read_known ws var place)
+layer_known ws (term.Pick base low at at_signed down width) =
+    subst (λ t. Known (IsLawful ws t)) (sym (rolls-Pick base.0 low at.0 at_signed down width))
+    (pick_known ws base.0 low at.0 at_signed down width base.1 at.1)
 layer_known ws (term.Apply o width lo held) =
     subst (λ t. Known (IsLawful ws t)) (sym (rolls-Apply o width lo (map (λ e. e.0) held)))
     (apply_known ws o width lo (map (λ e. e.0) held) (all_of (λ t. Known (IsLawful ws t)) held))

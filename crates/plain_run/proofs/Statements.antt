@@ -16,7 +16,8 @@ use Rattle.net_ir.specs.declared.statement.Stmt.TheFolds.{map-Stmt, fold_out-Stm
 use Rattle.net_ir.specs.Value.{val, reads_of}
 use Rattle.net_ir.specs.Statement.{Write, write_to, writes_of, writes_of_layer, written_bit, targets_of, targets_of_layer, statement_reads, statement_reads_of_layer}
 use Rattle.net_ir.specs.Drive.{writes_bit}
-use Rattle.plain_run.specs.Plain.{IsWholeTo, IsWholeLayer, IsLawful}
+use Rattle.net_ir.specs.Lawful.{IsLawful}
+use Rattle.plain_run.specs.Plain.{IsWholeTo, IsWholeLayer}
 use Rattle.plain_run.proofs.Terms.{AgreeAt, operand_is_local}
 use Rattle.plain_run.proofs.Elements.{all_both, all_flat, each_flat, flat_same, all_held}
 

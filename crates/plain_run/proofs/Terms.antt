@@ -4,7 +4,7 @@ use Rattle.std.specs.Prelude.{slice_index}
 use Rattle.std.specs.List.{AllByRecursion, flat_map}
 use Rattle.bit_ops.specs.Rows.{value_of}
 use Rattle.net_ir.specs.declared.term.Term.{Term}
-use Rattle.net_ir.specs.declared.term.Term.TheOpen.{Term-F, Const, Read, Apply}
+use Rattle.net_ir.specs.declared.term.Term.TheOpen.{Term-F, Const, Read, Pick, Apply}
 use Rattle.net_ir.specs.declared.term.Term.TheViews.{out-Term, roll-Term}
 use Rattle.net_ir.specs.declared.term.Term.TheFolds.{map-Term, fold-roll-Term, fold_out-Term, ind-Term}
 use Rattle.net_ir.specs.Value.{operand_of_layer, operand_of, size, reads_of_layer, reads_of}
@@ -45,6 +45,13 @@ local_layer ws (Read var place) u v h =
     fold-roll-Term (ℕ × ℕ) (operand_of_layer ws u) (Read var place)
     ∙ ap (λ word. (slice_index ws var, word)) agree.0
     ∙ sym (fold-roll-Term (ℕ × ℕ) (operand_of_layer ws v) (Read var place))
+local_layer ws (Pick base low at at_signed down width) u v h =
+    let agree : AgreeAt u v (reads_of base.0 ++ reads_of at.0) =
+    subst (AgreeAt u v) (fold-roll-Term (List ℕ) reads_of_layer (Pick base.0 low at.0 at_signed down width)) h in
+    fold-roll-Term (ℕ × ℕ) (operand_of_layer ws u) (Pick base.0 low at.0 at_signed down width)
+    ∙ ap (λ (b : ℕ × ℕ). operand_of_layer ws u (Pick b low (operand_of ws u at.0) at_signed down width)) (base.1 u v (all_front _ (reads_of base.0) (reads_of at.0) agree))
+    ∙ ap (λ (a : ℕ × ℕ). operand_of_layer ws u (Pick (operand_of ws v base.0) low a at_signed down width)) (at.1 u v (all_back _ (reads_of base.0) (reads_of at.0) agree))
+    ∙ sym (fold-roll-Term (ℕ × ℕ) (operand_of_layer ws v) (Pick base.0 low at.0 at_signed down width))
 local_layer ws (Apply op width lo args) u v h =
     let terms = map (λ (e : (t : Term) × IsLocal ws t). e.0) args in
     let agree : AgreeAt u v (flat_map (λ reads. reads) (map reads_of terms)) =
@@ -61,6 +68,7 @@ size_layer : (ws u : List ℕ) (x : Term-F Term) →
     (operand_of_layer ws u (map-Term Term (ℕ × ℕ) (operand_of ws u) x)).0 ≡ (operand_of_layer ws [] (map-Term Term (ℕ × ℕ) (operand_of ws []) x)).0
 size_layer ws u (Const bits) = refl
 size_layer ws u (Read var place) = refl
+size_layer ws u (Pick base low at at_signed down width) = refl
 size_layer ws u (Apply op width lo args) = refl
 
 pub width_is_size : (ws u : List ℕ) (t : Term) → (operand_of ws u t).0 ≡ size ws t

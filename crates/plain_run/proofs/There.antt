@@ -11,7 +11,7 @@ use Rattle.net_ir.specs.declared.design.Role.{Role}
 use Rattle.net_ir.specs.declared.design.Role.TheVariants.{Input, Output, Inner}
 use Rattle.net_ir.specs.declared.design.Var.{Var}
 use Rattle.net_ir.specs.declared.design.Spec.{Spec}
-use Rattle.net_ir.specs.Value.{widths_of}
+use Rattle.net_ir.specs.Value.{AreWordsOf, widths_of}
 use Rattle.net_ir.specs.Register.{Register, registers_of}
 use Rattle.net_ir.specs.Solution.{Solves, IsHeld}
 use Rattle.net_ir.specs.Facts.{HasLevels, HasOneSolution}
@@ -22,7 +22,7 @@ use Rattle.plain_run.proofs.BitWords.{word_of, word_fits, word_bits}
 use Rattle.plain_run.proofs.Registers.{IsHeldBy, register_bit, held_bit}
 use Rattle.plain_run.proofs.Apart.{are_apart, bit_in, bit_below, bit_of_register, bit_not_held}
 use Rattle.plain_run.proofs.Unique.{length-widths, width_is, element_at, input_or_not, one_solution}
-use Rattle.plain_run.proofs.Fits.{ValuesFit, AreSmall, run_small, run_length}
+use Rattle.plain_run.proofs.Fits.{ValuesFit, run_small, run_length}
 use Rattle.plain_run.proofs.Solved.{pass_solves}
 
 -- ---- what is held, and what stands before the drivers
@@ -71,7 +71,7 @@ keeps_initial spec state x k v at within none = held_at spec state x k v at with
 
 -- ---- the solution
 
-first_small : (spec : Spec) (state : State) → HasLevels spec state → AreSmall (widths_of spec.vars) (first_words spec state)
+first_small : (spec : Spec) (state : State) → HasLevels spec state → AreWordsOf (widths_of spec.vars) (first_words spec state)
 first_small spec state levels x within =
     let found = element_at spec.vars x (subst (λ n. x < n) (length-widths spec.vars) within) in
     subst (λ n. slice_index (first_words spec state) x < 2 ^ n) (sym (width_is spec.vars x found.0 found.1))
@@ -111,7 +111,7 @@ has_solution law spec state plain levels =
     let u = run ws spec.drivers before in
     let each : length before ≡ length spec.vars = length-words_by (first_word spec state) 0 spec.vars in
     let long : length before ≡ length ws = each ∙ sym (length-widths spec.vars) in
-    let small : AreSmall ws u = run_small law ws spec.drivers before long plain.whole (first_small spec state levels) in
+    let small : AreWordsOf ws u = run_small law ws spec.drivers before long plain.whole (first_small spec state levels) in
     pass_solves spec state (held_words spec state) before u plain
     (record {
       each = run_length ws spec.drivers before ∙ each;

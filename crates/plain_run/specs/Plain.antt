@@ -1,10 +1,7 @@
 -- Designs whose drivers can be taken in the order of the text.
-use Rattle.std.specs.Prelude.{◌≡◌, ℕ, ◌<◌, List, [], ◌∷◌, length, Option, None, Some, false, IsTrue, slice_get, slice_index, map, ⊤}
+use Rattle.std.specs.Prelude.{◌≡◌, ℕ, ◌<◌, List, [], ◌∷◌, length, Option, None, Some, false, IsTrue, slice_get, slice_index, ⊤}
 use Rattle.std.specs.List.{AllByRecursion}
-use Rattle.bit_ops.specs.Width.{IsWidth, WidthsFit}
 use Rattle.net_ir.specs.declared.term.Term.{Term}
-use Rattle.net_ir.specs.declared.term.Term.TheOpen.{Term-F, Const, Read, Apply}
-use Rattle.net_ir.specs.declared.term.Term.TheFolds.{every-Term}
 use Rattle.net_ir.specs.declared.design.Role.TheVariants.{Input}
 use Rattle.net_ir.specs.declared.design.Var.{Var}
 use Rattle.net_ir.specs.declared.design.Target.{Target}
@@ -18,20 +15,11 @@ use Rattle.net_ir.specs.declared.design.Driver.{Driver}
 use Rattle.net_ir.specs.declared.design.Driver.TheVariants.{Assign, Clocked}
 use Rattle.net_ir.specs.declared.design.Spec.{Spec}
 use Rattle.net_ir.specs.Value.{widths_of, size}
+use Rattle.net_ir.specs.Lawful.{IsLawful}
 use Rattle.net_ir.specs.Statement.{targets_of}
 use Rattle.net_ir.specs.Drive.{target_var, writes, depends_on, NoneDrives, NoneWrites}
 use Rattle.net_ir.specs.Face.{stands_in, all_reads}
 use Rattle.net_ir.specs.Facts.{HasPortsFirst}
-
--- one layer of a lawful term: a read names a variable that is there, an operation has the operands of its row
-abbrev pub IsLawfulLayer : List ℕ → Term-F Term → Type 0
-IsLawfulLayer ws (Const bits) = ⊤
-IsLawfulLayer ws (Read var place) = var < length ws
-IsLawfulLayer ws (Apply op width lo args) = IsWidth width × WidthsFit op width lo (map (size ws) args)
-
--- a term each layer of which is lawful, where ws are the widths of the variables
-abbrev pub IsLawful : List ℕ → Term → Type 0
-IsLawful ws = every-Term (IsLawfulLayer ws)
 
 -- a lawful term is assigned to the whole of a variable of its width that is there
 pub record IsWholeAssign (ws : List ℕ) (var : ℕ) (value : Term) : Type 0 where

@@ -5,16 +5,18 @@ ghost use Rattle.bit_ops.specs.Width.{IsWidth, WidthsFit};
 ghost use Rattle.bit_ops.specs.Rows.{value_of};
 ghost use Rattle.std.specs.List.{AllByRecursion};
 ghost use Rattle.bit_ops.specs.Lists.{words, widths};
-ghost use Rattle.net_ir.specs.Value.{widths_of, operands, size, val};
-ghost use Rattle.plain_run.specs.Plain.{IsLawful, IsWhole, IsPlain};
+ghost use Rattle.net_ir.specs.Value.{widths_of, whole_number, picked, operands, size, val};
+ghost use Rattle.net_ir.specs.Lawful.{IsLawful};
+ghost use Rattle.plain_run.specs.Plain.{IsWhole, IsPlain};
 ghost use Rattle.plain_run.specs.code.Pass.{source_of, sources_of, KeepsInitial, state_of, IsStorable, store, effect, run};
 ghost use Rattle.net_ir.specs.Solution.{Solves};
 
 use bit_ops::{
-    Bits, Op, add, bit_and, bit_not, bit_or, bit_xor, concat, div_s, div_u, eq, insert, lt_s, lt_u,
-    mod_s, mod_u, mul, mux, neg, red_and, red_or, red_xor, sext, shl, shr_s, shr_u, slice, sub,
-    zext,
+    Bits, Op, Word, add, bit_and, bit_not, bit_or, bit_xor, concat, div_s, div_u, eq, insert, lt_s,
+    lt_u, mod_s, mod_u, mul, mux, neg, red_and, red_or, red_xor, sext, shl, shr_s, shr_u, slice,
+    sub, zext,
 };
+use const_eval::{Const, bits_from};
 use net_ir::{Driver, Role, Spec, Target, Term, Var};
 
 /// The value of an operation on one operand.
@@ -83,6 +85,26 @@ fn apply(op: Op, width: u32, lo: u32, values: &[Bits]) -> Bits
     }
 }
 
+/// So many bits of a base whose lowest position is `low`, from a position up, or from it down.
+fn pick(base: Bits, low: u32, at: Bits, at_signed: bool, down: bool, width: u32) -> Bits
+    requires { IsWidth width }
+    ensures width { result.width ≡ width }
+    ensures word { result.word ≡ picked base.word low down (whole_number at_signed at.width at.word) width }
+{
+    let position = Const {
+        value: at,
+        signed: at_signed,
+    }
+    .number();
+    let above = if down { width - 1 } else { 0 };
+    bits_from(
+        base.word,
+        position,
+        Word::from(low) + Word::from(above),
+        width,
+    )
+}
+
 /// The value of a term where the variables have these values. Takes no memory.
 pub fn evaluate(term: &Term, values: &[Bits]) -> Bits
     requires { IsLawful (widths values.now) term.now }
@@ -92,6 +114,18 @@ pub fn evaluate(term: &Term, values: &[Bits]) -> Bits
     match term {
         Term::Const(bits) => *bits,
         Term::Read { var, .. } => values[*var as usize],
+        Term::Pick {
+            base,
+            low,
+            at,
+            at_signed,
+            down,
+            width,
+        } => {
+            let base = evaluate(base.get(), values);
+            let at = evaluate(at.get(), values);
+            pick(base, *low, at, *at_signed, *down, *width)
+        }
         Term::Apply {
             op,
             width,

@@ -15,7 +15,7 @@ ghost use Rattle.plain_run.specs.Plain.{IsPlain};
 pub fn plain_solution()
     ensures { (spec : Spec) → IsPlain spec → HasOneSolution spec }
 {
-    bit_ops::laws::value_fits();
+    net_ir::law::lawful_values();
 }
 
 /// In a plain design idle inputs change nothing that is seen.

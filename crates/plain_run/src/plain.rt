@@ -134,6 +134,7 @@ fn is_unread(term: &Term, marks: &[bool]) -> bool
     match term {
         Term::Const(_) => true,
         Term::Read { var, .. } => is_clear(marks, *var as usize),
+        Term::Pick { base, at, .. } => is_unread(base.get(), marks) && is_unread(at.get(), marks),
         Term::Apply { args, .. } => {
             for arg in args.as_slice() {
                 if !is_unread(arg, marks) {

@@ -4,7 +4,8 @@ ghost use Rattle.std.specs.Prelude.{◌≡◌, ◌<◌, [], ◌∷◌, Some, IfO
 ghost use Rattle.std.specs.List.{AllByRecursion};
 ghost use Rattle.net_ir.specs.Value.{widths_of, size};
 ghost use Rattle.net_ir.specs.Drive.{target_var};
-ghost use Rattle.plain_run.specs.Plain.{HaveInitialValues, IsLawful, IsWhole};
+ghost use Rattle.net_ir.specs.Lawful.{IsLawful};
+ghost use Rattle.plain_run.specs.Plain.{HaveInitialValues, IsWhole};
 
 use crate::is_plain;
 use bit_ops::Bits;

@@ -1,5 +1,5 @@
 -- The bytes of a source: why they are refused, and the design that they have.
-use Rattle.std.proofs.Common.{◌≡◌, ℕ, ◌+◌, ◌<◌, ◌≤◌, true, List, [], length, drop, get_or, sym, subst, ◌∙◌, Option, None, Some, Result, Ok, Err, Global, inl, inr}
+use Rattle.std.proofs.Common.{◌≡◌, ℕ, ◌+◌, ◌<◌, ◌≤◌, true, List, [], length, drop, get_or, sym, subst, None, Some, Result, Ok, Err, inl, inr}
 use Rattle.std.specs.Prelude.{map, IfOk, IfErr}
 use Rattle.sv_base.specs.declared.refusal.Refusal.{Refusal}
 use Rattle.sv_lexer.specs.declared.token.Token.{Token}

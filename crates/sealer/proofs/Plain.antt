@@ -25,7 +25,8 @@ use Rattle.net_ir.specs.declared.statement.Stmt.TheFolds.{every-Stmt, every_made
 use Rattle.net_ir.specs.declared.design.Var.{Var}
 use Rattle.net_ir.specs.declared.design.Target.TheVariants.{Of}
 use Rattle.net_ir.specs.Value.{widths_of, operand_of, operand_of_layer, size}
-use Rattle.plain_run.specs.Plain.{IsLawfulLayer, IsLawful, IsWholeTo, IsWholeLayer, IsWhole, HaveInitialValues}
+use Rattle.net_ir.specs.Lawful.{IsLawfulLayer, IsLawful}
+use Rattle.plain_run.specs.Plain.{IsWholeTo, IsWholeLayer, IsWhole, HaveInitialValues}
 use Rattle.sv_ast.specs.declared.expression.Id.{Id}
 use Rattle.plain_run.specs.declared.tree.Operator.{Operator}
 use Rattle.plain_run.specs.declared.tree.Operator.TheVariants.{And, Or, Xor}

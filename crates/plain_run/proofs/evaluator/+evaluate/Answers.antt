@@ -1,18 +1,42 @@
 use Rattle.std.proofs.Common.{◌≡◌, ◌<◌, ◌≤◌, length, map, take, get_or, ◌+◌, [], rules, arith, subst, sym, ap, ◌∙◌, refl}
 use Rattle.std.specs.Prelude.{slice_set}
 use Rattle.std.proofs.lemmas.List.{length-map, length-set}
-use Rattle.net_ir.specs.declared.term.Term.{Apply}
+use Rattle.net_ir.specs.declared.term.Term.{Pick, Apply}
 use Rattle.net_ir.specs.declared.term.Term.TheFolds.{the_lemmas}
 use borrow.Author.Rules.{get_or_read}
 use Rattle.bit_ops.specs.Lists.{words, widths}
 use Rattle.net_ir.specs.Value.{operands, operand_of, size, val}
-use Rattle.plain_run.specs.Plain.{IsLawful}
+use Rattle.net_ir.specs.Lawful.{IsLawful}
 use Rattle.plain_run.proofs.Terms.{width_is_size}
-use Rattle.plain_run.proofs.Layers.{lawful_apply, lawful_arg, few_operands, operand_read, read_width, read_word, more_operands, all_fit, all_value, read_there}
+use Rattle.plain_run.proofs.Layers.{lawful_pick, pick_width, lawful_apply, lawful_arg, few_operands, operand_read, read_width, read_word, more_operands, all_fit, all_value, read_there}
 use Rattle.plain_run.proofs.evaluator.+evaluate.Goals as goal
 
 pub bounds-values-var : goal.bounds-values-var
 bounds-values-var t c = read_there c.args.values.now c.in-Read.var c.in-Read.place c.args.term.now c.in-Read.is c.requires
+
+pub evaluate-base-requires : goal.evaluate-base-requires
+evaluate-base-requires t c =
+    let ws = widths c.args.values.now in
+    let pick = c.in-Pick in
+    let lawful : IsLawful ws (Pick pick.base pick.low pick.at pick.at_signed pick.down pick.width) = subst (IsLawful ws) pick.is c.requires in (
+      search (rules, the_lemmas, c.well_formed),
+      subst (IsLawful ws) (sym c.get.ensures) (lawful_pick ws pick.base pick.low pick.at pick.at_signed pick.down pick.width lawful).0,
+    )
+
+pub evaluate-at-requires : goal.evaluate-at-requires
+evaluate-at-requires t c =
+    let ws = widths c.args.values.now in
+    let pick = c.in-Pick in
+    let lawful : IsLawful ws (Pick pick.base pick.low pick.at pick.at_signed pick.down pick.width) = subst (IsLawful ws) pick.is c.requires in (
+      search (rules, the_lemmas, c.well_formed),
+      subst (IsLawful ws) (sym c.get-in-Pick.ensures) (lawful_pick ws pick.base pick.low pick.at pick.at_signed pick.down pick.width lawful).1,
+    )
+
+pub pick-requires : goal.pick-requires
+pick-requires t c =
+    let ws = widths c.args.values.now in
+    let pick = c.in-Pick in
+    pick_width ws pick.base pick.low pick.at pick.at_signed pick.down pick.width (subst (IsLawful ws) pick.is c.requires)
 
 pub loop-arg-init : goal.loop-arg-init
 loop-arg-init t c =

@@ -9,7 +9,8 @@ use Rattle.net_ir.specs.declared.statement.Stmt.TheVariants.{rolls-Assign}
 use Rattle.net_ir.specs.declared.statement.Stmt.TheFolds.{every-Stmt, every_made-Stmt}
 use Rattle.net_ir.specs.Value.{size}
 use Rattle.net_ir.specs.Drive.{target_var}
-use Rattle.plain_run.specs.Plain.{IsLawful, IsWholeAssign, IsWholeTo, IsWholeLayer}
+use Rattle.net_ir.specs.Lawful.{IsLawful}
+use Rattle.plain_run.specs.Plain.{IsWholeAssign, IsWholeTo, IsWholeLayer}
 use Rattle.plain_run.proofs.plain_tests.driver.Goals as goal
 
 abbrev Ones : List ℕ

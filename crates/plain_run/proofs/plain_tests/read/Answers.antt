@@ -4,7 +4,7 @@ use Rattle.net_ir.specs.declared.term.Term.{Read}
 use Rattle.net_ir.specs.declared.term.Term.TheOpen as layer
 use Rattle.net_ir.specs.declared.term.Term.TheVariants.{rolls-Read}
 use Rattle.net_ir.specs.declared.term.Term.TheFolds.{every_made-Term}
-use Rattle.plain_run.specs.Plain.{IsLawfulLayer, IsLawful}
+use Rattle.net_ir.specs.Lawful.{IsLawfulLayer, IsLawful}
 use Rattle.plain_run.proofs.plain_tests.read.Goals as goal
 
 read_lawful : (ws : List ℕ) (var : ℕ) (place : Place) → var < length ws → IsLawful ws (Read var place)
