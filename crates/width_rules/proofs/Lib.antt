@@ -1,0 +1,12 @@
+pub mod Nodes
+pub mod Pendings
+pub mod Standings
+pub mod Joins
+pub mod Names
+pub mod Takes
+pub mod Constants
+pub mod Literals
+pub mod Parts
+pub mod Opened
+pub mod Assigned
+pub mod Sizings

@@ -1,0 +1,72 @@
+-- What names stand for in a scope.
+use Rattle.std.proofs.Common.{◌≡◌, ℕ, zero, suc, ◌<◌, ◌+◌, Bool, true, false, List, [], ◌∷◌, length, map, get_or, Option, None, Some, refl, sym, ◌∙◌, ap, subst, arith}
+use Rattle.std.specs.Prelude.{slice_get, slice_index, ℤ, pos, ◌-ℤ◌}
+use Rattle.std.specs.List.{AllByRecursion}
+use Rattle.std.proofs.lemmas.List.{length-map}
+use Rattle.bit_ops.specs.Width.{IsWidth}
+use Rattle.sv_base.specs.declared.refusal.Place.{Place}
+use Rattle.net_ir.specs.declared.design.Var.{Var}
+use Rattle.net_ir.specs.declared.term.Term.{Term, Read, Pick}
+use Rattle.net_ir.specs.Value.{widths_of, whole_number, lowest_from, picked}
+use Rattle.net_ir.specs.Terms.{Has, has_read, has_pick}
+use Rattle.const_eval.specs.declared.env.Bound.{Bound}
+use Rattle.const_eval.specs.declared.env.Bound.TheVariants.{Constant, Variable}
+use Rattle.const_eval.specs.Meaning.{Meaning, own, number, alone}
+use Rattle.const_eval.specs.Expressions as spec
+use Rattle.const_eval.specs.Selects.{Named, bits_from, part}
+use Rattle.width_rules.specs.declared.scope.Scope.{Scope}
+use Rattle.width_rules.specs.declared.measured.Measured.{Measured}
+use Rattle.width_rules.specs.code.Standing.{Stands}
+use Rattle.width_rules.specs.Scope.{variable_named, named_in, IsScope, IsBoundIn}
+
+-- a variable that is there
+pub var_at : (vars : List Var) (x : ℕ) → x < length vars → (v : Var) × (slice_get vars x ≡ Some v)
+var_at [] x there = absurd (omega (arith, there))
+var_at (v ∷ vars) zero there = (v, refl)
+var_at (v ∷ vars) (suc x) there = var_at vars x (omega (arith, there))
+
+width_at : (vars : List Var) (x : ℕ) (v : Var) → slice_get vars x ≡ Some v → slice_index (widths_of vars) x ≡ v.width
+width_at [] x v is = absurd (let clash : None ≡ Some v = is in cc)
+width_at (w ∷ vars) zero v is = let same : Some w ≡ Some v = is in let one : w ≡ v = cc in ap (λ (y : Var). y.width) one
+width_at (w ∷ vars) (suc x) v is = width_at vars x v is
+
+-- a read of a variable has its size and its word
+pub variable_has : (scope : Scope) (u : List ℕ) (x : ℕ) (place : Place) → x < length scope.vars →
+    Has (widths_of scope.vars) u (Read x place) (named_in scope.vars u (Variable x)).size (named_in scope.vars u (Variable x)).word
+variable_has scope u x place there =
+    let found = var_at scope.vars x there in
+    let read : Has (widths_of scope.vars) u (Read x place) found.0.width (slice_index u x) =
+    subst (λ n. Has (widths_of scope.vars) u (Read x place) n (slice_index u x)) (width_at scope.vars x found.0 found.1)
+    (has_read (widths_of scope.vars) u x place (subst (λ n. x < n) (sym (length-map scope.vars (λ (v : Var). v.width))) there)) in
+    subst (λ (o : Option Var). Has (widths_of scope.vars) u (Read x place) (variable_named o (slice_index u x)).size (variable_named o (slice_index u x)).word) (sym found.1) read
+
+-- what is bound has a width that a value may have
+width_of_all : (vars : List Var) (x : ℕ) (v : Var) → AllByRecursion (λ (v : Var). IsWidth v.width) vars → slice_get vars x ≡ Some v → IsWidth v.width
+width_of_all [] x v all is = absurd (let clash : None ≡ Some v = is in cc)
+width_of_all (w ∷ vars) zero v all is = let same : Some w ≡ Some v = is in let one : w ≡ v = cc in subst (λ (y : Var). IsWidth y.width) one all.0
+width_of_all (w ∷ vars) (suc x) v all is = width_of_all vars x v all.1 is
+
+pub bound_wide : (scope : Scope) (u : List ℕ) (bound : Bound) → IsScope scope → IsBoundIn scope bound → IsWidth (named_in scope.vars u bound).size
+bound_wide scope u (Constant value low) lawful there = (value.value.positive, value.value.within)
+bound_wide scope u (Variable x) lawful there =
+    let found = var_at scope.vars x there in
+    subst (λ (o : Option Var). IsWidth (variable_named o (slice_index u x)).size) (sym found.1) (width_of_all scope.vars x found.0 lawful.widths found.1)
+
+-- a whole name
+pub whole_stands : (ws u : List ℕ) (r : Measured) (w : ℕ) (s : Bool) (n : Named) (t : Term) → w ≡ n.size → s ≡ n.signed → IsWidth n.size → Has ws u t n.size n.word →
+    ((x : ℕ) → IsWidth w → Has ws u t w x → Stands ws u r (alone w s x)) → Stands ws u r (spec.whole n)
+whole_stands ws u r w s n t size signed wide h step =
+    subst (λ k. Stands ws u r (alone k n.signed n.word)) size
+    (subst (λ k. Stands ws u r (alone w k n.word)) signed
+    (step n.word (subst IsWidth (sym size) wide) (subst (λ k. Has ws u t k n.word) (sym size) h)))
+
+-- so many bits of a name
+pub pick_stands : (ws u : List ℕ) (r : Measured) (n : Named) (p : Meaning) (down : Bool) (width : ℕ) (base : Term) (low : ℕ) (at : Term) (at_signed : Bool) →
+    at_signed ≡ p.signed → low ≡ n.low → IsWidth width → Has ws u base n.size n.word → Has ws u at p.size (own p) →
+    ((x : ℕ) → Has ws u (Pick base low at at_signed down width) width x → Stands ws u r (alone width false x)) →
+    Stands ws u r (part n (lowest_from down width (number p)) width)
+pick_stands ws u r n p down width base low at at_signed sign lowest wide h k step =
+    step (bits_from (lowest_from down width (number p) -ℤ pos n.low) width n.word)
+    (subst (λ s. Has ws u (Pick base low at at_signed down width) width (picked n.word n.low down (whole_number s p.size (own p)) width)) sign
+    (subst (λ l. Has ws u (Pick base low at at_signed down width) width (picked n.word l down (whole_number at_signed p.size (own p)) width)) lowest
+    (has_pick ws u base low at at_signed down width n.size n.word p.size (own p) wide h k)))

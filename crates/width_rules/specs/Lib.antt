@@ -1,0 +1,4 @@
+pub mod Scope
+pub mod Sized
+pub mod Nodes
+pub mod code

@@ -1,0 +1,253 @@
+//! Names with their selects (IEEE 1800-2017, 11.5.1).
+
+ghost use Rattle.std.specs.Prelude.{◌≡◌, ◌≤◌, ◌+◌, ℕ, List, pos, IfOk};
+ghost use Rattle.bit_ops.specs.Width.{IsWidth};
+ghost use Rattle.const_eval.specs.Meaning.{Meaning, own, number};
+ghost use Rattle.const_eval.specs.Selects.{part};
+ghost use Rattle.const_eval.specs.Expressions as spec;
+ghost use Rattle.const_eval.specs.code.Agreeing.{Agrees};
+ghost use Rattle.net_ir.specs.Value.{widths_of, lowest_from};
+ghost use Rattle.width_rules.specs.Scope.{named_in, AreWordsIn, IsScope, IsBoundIn};
+ghost use Rattle.width_rules.specs.Nodes.{nodes_of};
+ghost use Rattle.width_rules.specs.code.Waiting.{weight_of, taking_weight};
+ghost use Rattle.width_rules.specs.code.Taking.{taken_width, indexed};
+ghost use Rattle.net_ir.specs.Terms.{Has};
+ghost use Rattle.width_rules.specs.code.Standing.{Stands, IsFound, ArePositions};
+
+use crate::fault::WidthFault;
+use crate::measured::Measured;
+use crate::own::alone;
+use crate::scope::Scope;
+use crate::taking::Taking;
+use bit_ops::Word;
+use const_eval::refuse::{part_width, refused_at};
+use const_eval::{Bound, Const, span};
+use net_ir::Term;
+use sqlite_items::Boxed;
+use std::alloc::{AllocError, Global};
+use sv_ast::Id;
+use sv_base::Kind;
+
+/// The width of what a name stands for.
+fn width_of(scope: &Scope, bound: Bound) -> u32
+    requires { IsBoundIn scope.now bound }
+    ensures { (u : List ℕ) → result ≡ (named_in scope.now.vars u bound).size }
+{
+    match bound {
+        Bound::Constant { value, .. } => value.value.width,
+        Bound::Variable(x) => scope.vars.as_slice()[x as usize].width,
+    }
+}
+
+/// Whether bits can be selected from it.
+fn is_ranged(scope: &Scope, bound: Bound) -> bool
+    requires { IsBoundIn scope.now bound }
+    ensures { (u : List ℕ) → result ≡ (named_in scope.now.vars u bound).ranged }
+{
+    match bound {
+        Bound::Constant { .. } => true,
+        Bound::Variable(x) => scope.vars.as_slice()[x as usize].ranged,
+    }
+}
+
+/// Whether it is signed.
+fn is_signed(scope: &Scope, bound: Bound) -> bool
+    requires { IsBoundIn scope.now bound }
+    ensures { (u : List ℕ) → result ≡ (named_in scope.now.vars u bound).signed }
+{
+    match bound {
+        Bound::Constant { value, .. } => value.signed,
+        Bound::Variable(x) => scope.vars.as_slice()[x as usize].signed,
+    }
+}
+
+/// The lowest position of its range.
+fn low_of(scope: &Scope, bound: Bound) -> u32
+    requires { IsBoundIn scope.now bound }
+    ensures { (u : List ℕ) → result ≡ (named_in scope.now.vars u bound).low }
+{
+    match bound {
+        Bound::Constant { low, .. } => low,
+        Bound::Variable(x) => scope.vars.as_slice()[x as usize].low,
+    }
+}
+
+/// The whole of it as a term.
+fn term_of(name: &Id, bound: Bound) -> Term
+    ensures term { (scope : Scope) (u : List ℕ) → IsBoundIn scope bound
+        → Has (widths_of scope.vars) u result (named_in scope.vars u bound).size (named_in scope.vars u bound).word }
+    ensures nodes { nodes_of result ≡ 1 }
+{
+    match bound {
+        Bound::Constant { value, .. } => Term::Const(value.value),
+        Bound::Variable(var) => Term::Read {
+            var,
+            place: name.place,
+        },
+    }
+}
+
+/// A whole name.
+pub fn whole(scope: &Scope, name: &Id, bound: Bound) -> Measured
+    requires scope { IsScope scope.now }
+    requires bound { IsBoundIn scope.now bound }
+    ensures meaning { (u : List ℕ) → AreWordsIn scope.now u
+        → Stands (widths_of scope.now.vars) u result (spec.whole (named_in scope.now.vars u bound)) }
+    ensures weight { weight_of result.pending ≡ 2 }
+{
+    let term = term_of(name, bound);
+    alone(width_of(scope, bound), term, is_signed(scope, bound))
+}
+
+/// So many bits of a name from a position up, or from it down; the position is a number by a sign.
+fn pick(
+    alloc: Global,
+    scope: &Scope,
+    name: &Id,
+    bound: Bound,
+    at: Term,
+    at_signed: bool,
+    down: bool,
+    width: u32,
+) -> Result<Measured, AllocError>
+    requires { IsBoundIn scope.now bound }
+    ensures meaning { (u : List ℕ) (p : Meaning) → AreWordsIn scope.now u → IsWidth width
+        → Has (widths_of scope.now.vars) u at p.size (own p) → at_signed ≡ p.signed
+        → IfOk result (λ r. Stands (widths_of scope.now.vars) u r
+        (part (named_in scope.now.vars u bound) (lowest_from down width (number p)) width)) }
+    ensures weight { IfOk result (λ r. weight_of r.pending ≡ 3 + nodes_of at) }
+{
+    let at = Boxed::new(alloc, at)?;
+    let base = Boxed::new(alloc, term_of(name, bound))?;
+    let picked = Term::Pick {
+        base,
+        low: low_of(scope, bound),
+        at,
+        at_signed,
+        down,
+        width,
+    };
+    Ok(alone(width, picked, false))
+}
+
+/// So many bits of a name from a position that was measured up, or from it down.
+fn pick_at(
+    alloc: Global,
+    scope: &Scope,
+    name: &Id,
+    bound: Bound,
+    at: Measured,
+    down: bool,
+    width: u32,
+) -> Result<Measured, AllocError>
+    requires { IsBoundIn scope.now bound }
+    ensures meaning { (u : List ℕ) (p : Meaning) → IsWidth width → Stands (widths_of scope.now.vars) u at p
+        → IfOk result (λ r. Stands (widths_of scope.now.vars) u r
+        (part (named_in scope.now.vars u bound) (lowest_from down width (number p)) width)) }
+    ensures weight { IfOk result (λ r. weight_of r.pending ≤ 3 + weight_of at.pending) }
+{
+    let signed = at.signed;
+    let at = at.own(alloc)?;
+    pick(alloc, scope, name, bound, at, signed, down, width)
+}
+
+/// A count as the width of a part of a name, where bits can be selected from it.
+fn taken_width(
+    alloc: Global,
+    scope: &Scope,
+    name: &Id,
+    bound: Bound,
+    count: Word,
+) -> Result<u32, WidthFault>
+    requires { IsBoundIn scope.now bound }
+    ensures width { IfOk result IsWidth }
+    ensures told { (u : List ℕ) → Agrees (λ w n. w ≡ n) result
+        (taken_width (pos count) (named_in scope.now.vars u bound) name.now) }
+{
+    if is_ranged(scope, bound) {
+        part_width(alloc, name, count)
+    } else {
+        Err(refused_at(alloc, Kind::BadRange, name)?)
+    }
+}
+
+/// The bit at a position.
+fn take_at(
+    alloc: Global,
+    scope: &Scope,
+    name: &Id,
+    bound: Bound,
+    at: Measured,
+) -> Result<Measured, WidthFault>
+    requires { IsBoundIn scope.now bound }
+    ensures meaning { (u : List ℕ) (p : Meaning) → Stands (widths_of scope.now.vars) u at p
+        → Agrees (Stands (widths_of scope.now.vars) u) result
+        (spec.take (spec.At p) (named_in scope.now.vars u bound) name.now) }
+    ensures weight { IfOk result (λ r. weight_of r.pending ≤ 3 + weight_of at.pending) }
+{
+    let width = taken_width(alloc, scope, name, bound, 1)?;
+    Ok(pick_at(alloc, scope, name, bound, at, false, width)?)
+}
+
+/// The bits from one position down to another.
+fn take_part(
+    alloc: Global,
+    scope: &Scope,
+    name: &Id,
+    bound: Bound,
+    high: Const,
+    low: Const,
+) -> Result<Measured, WidthFault>
+    requires { IsBoundIn scope.now bound }
+    ensures meaning { (u : List ℕ) (m l : Meaning) → AreWordsIn scope.now u → IsFound high m → IsFound low l
+        → Agrees (Stands (widths_of scope.now.vars) u) result
+        (spec.take (spec.DownTo m l) (named_in scope.now.vars u bound) name.now) }
+    ensures weight { IfOk result (λ r. weight_of r.pending ≡ 4) }
+{
+    let width = taken_width(alloc, scope, name, bound, span(high.number(), low.number()))?;
+    let at = Term::Const(low.value);
+    Ok(pick(alloc, scope, name, bound, at, low.signed, false, width)?)
+}
+
+/// So many bits from a position up, or from it down.
+fn take_from(
+    alloc: Global,
+    scope: &Scope,
+    name: &Id,
+    bound: Bound,
+    at: Measured,
+    width: Const,
+    down: bool,
+) -> Result<Measured, WidthFault>
+    requires { IsBoundIn scope.now bound }
+    ensures meaning { (u : List ℕ) (p n : Meaning) → Stands (widths_of scope.now.vars) u at p → IsFound width n
+        → Agrees (Stands (widths_of scope.now.vars) u) result
+        (spec.take (indexed down p n) (named_in scope.now.vars u bound) name.now) }
+    ensures weight { IfOk result (λ r. weight_of r.pending ≤ 3 + weight_of at.pending) }
+{
+    let width = taken_width(alloc, scope, name, bound, width.number().count())?;
+    Ok(pick_at(alloc, scope, name, bound, at, down, width)?)
+}
+
+/// What a select takes of a name.
+pub fn take(
+    alloc: Global,
+    scope: &Scope,
+    name: &Id,
+    bound: Bound,
+    taking: Taking,
+) -> Result<Measured, WidthFault>
+    requires { IsBoundIn scope.now bound }
+    ensures meaning { (u : List ℕ) (positions : spec.Positions) → AreWordsIn scope.now u
+        → ArePositions (widths_of scope.now.vars) u taking positions
+        → Agrees (Stands (widths_of scope.now.vars) u) result
+        (spec.take positions (named_in scope.now.vars u bound) name.now) }
+    ensures weight { IfOk result (λ r. weight_of r.pending ≤ 4 + taking_weight taking) }
+{
+    match taking {
+        Taking::At(at) => take_at(alloc, scope, name, bound, at),
+        Taking::DownTo(high, low) => take_part(alloc, scope, name, bound, high, low),
+        Taking::UpFrom(at, width) => take_from(alloc, scope, name, bound, at, width, false),
+        Taking::DownFrom(at, width) => take_from(alloc, scope, name, bound, at, width, true),
+    }
+}
