@@ -1,0 +1,5 @@
+use Rattle.wrapper_core_tests.specs.Board.{IsBoard}
+use Rattle.wrapper_core_tests.proofs.script.play.Given as goal
+
+abbrev pub invariant-loop-k : goal.invariant-loop-k
+invariant-loop-k l = IsBoard l.b.inputs l.b.clocks l.b.outputs l.b.registers l.b.world
