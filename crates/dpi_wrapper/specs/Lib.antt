@@ -1,0 +1,3 @@
+pub mod WrapperText
+pub mod GoodFace
+pub mod code
