@@ -1,6 +1,6 @@
 -- Lists that are compared item by item.
-use Rattle.std.proofs.Common.{◌≡◌, ℕ, ◌+◌, ◌<◌, ◌≤◌, Bool, List, length, take, get_or, sym, ◌∙◌, ap, arith}
-use Rattle.std.proofs.lemmas.List.{take_all, take_more_same}
+use Rattle.std.proofs.Common.{◌≡◌, ℕ, ◌≤◌, Bool, List, length, take, sym, ◌∙◌, ap, arith}
+use Rattle.std.proofs.lemmas.List.{take_all}
 use Rattle.sv_base.specs.declared.face.Class.{Class}
 use Rattle.sv_base.specs.declared.face.Port.{Port}
 use Rattle.sv_base.specs.declared.face.Face.{Face}

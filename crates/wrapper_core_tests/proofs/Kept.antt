@@ -1,8 +1,7 @@
 -- What events keep, and when a world is at rest.
-use Rattle.std.proofs.Common.{◌≡◌, ℕ, zero, suc, ◌<◌, List, [], ◌∷◌, length, map, take, drop, refl, sym, ◌∙◌, ap, subst}
+use Rattle.std.proofs.Common.{◌≡◌, ℕ, zero, suc, List, [], ◌∷◌, map, take, drop, refl, sym, ◌∙◌, ap, subst}
 use Rattle.std.proofs.lemmas.Option.{none-some, same_Some}
 use Rattle.std.specs.Prelude.{Some, slice_get}
-use Rattle.code_isa.specs.declared.machine.Machine.{Machine}
 use Rattle.code_isa.specs.Settled.{IsFilled}
 use Rattle.model_stage.specs.Model.{Model}
 use Rattle.wrapper_core.specs.declared.event.Event.{Event}
@@ -40,7 +39,8 @@ module _ {X : Type 0} (model : X → Model) where
   }
 
 -- the child at a place is the one that is read there
-pub child_is : {X : Type 0} (xs : List (Wrapped X)) (i : ℕ) (x : Wrapped X) (r : X) → slice_get xs i ≡ Some x → map (λ (c : Wrapped X). c.child) (take 1 (drop i xs)) ≡ r ∷ [] → x.child ≡ r
+pub child_is : {X : Type 0} (xs : List (Wrapped X)) (i : ℕ) (x : Wrapped X) (r : X) → slice_get xs i ≡ Some x →
+    map (λ (c : Wrapped X). c.child) (take 1 (drop i xs)) ≡ r ∷ [] → x.child ≡ r
 child_is [] i x r at read = absurd (none-some x at)
 child_is {X = X} (y ∷ ys) zero x r at read =
     let first : y.child ≡ r = cc read in

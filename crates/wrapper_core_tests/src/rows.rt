@@ -1,7 +1,7 @@
 //! Random worlds with scripts and what they tell, as `bench/worlds 40 5 1` writes them.
 
-/// A world, a script, and what it tells.
-pub const ROWS: [(&str, &str, &str); 200] = [
+/// Worlds, each with a script and what it tells.
+pub const ROWS_1: [(&str, &str, &str); 25] = [
     (
         "r007q713re16f20-g11-|55-^34-|78-o6--o9--l1--",
         "xf7o--o--u1-;--",
@@ -127,6 +127,10 @@ pub const ROWS: [(&str, &str, &str); 200] = [
         "xc0o--u2-o--o--u1-o--o--o--u0-o--;--t01k0-k2-k1-s--;--c--;--",
         "0a!a63a8a310d610c010,04!a63a8a311d611c011,01!a63a8a311d611c011,",
     ),
+];
+
+/// Worlds, each with a script and what it tells.
+pub const ROWS_2: [(&str, &str, &str); 25] = [
     (
         "rd08ra16g41-g21-g91-g21-+55-&44-o4--o5--l1--",
         "x8eu0-u0-;--o--o--u3-o--u1-;--x74o--o--o--o--;--t00k1-s--k0-u0-c--;--k3-k2-c--;--",
@@ -252,6 +256,10 @@ pub const ROWS: [(&str, &str, &str); 200] = [
         "xefo--u1-o--u2-o--u0-o--;--",
         "07!3fc6163106f10f010,",
     ),
+];
+
+/// Worlds, each with a script and what it tells.
+pub const ROWS_3: [(&str, &str, &str); 25] = [
     (
         "q015qa13g10-&04-+00-o4--o4--l1--",
         "x65o--o--o--o--u0-;--t01k1-o--;--k0-s--;--c--;--x9fo--o--o--s--k1-k1-;--u0-;--",
@@ -377,6 +385,10 @@ pub const ROWS: [(&str, &str, &str); 200] = [
         "xbbo--k0-c--u1-;--o--o--o--u0-o--;--x27o--u0-o--;--t01s--k0-c--;--",
         "01?bb0a00,05!bbb510,03!277120,03!277121,",
     ),
+];
+
+/// Worlds, each with a script and what it tells.
+pub const ROWS_4: [(&str, &str, &str); 25] = [
     (
         "r501r012rd04g40-p04-o5--o0--l1--",
         "x6ao--u0-o--u1-o--;--t10u1-u2-;--k0-s--k1-c--o--;--x57o--;--t10k1-k0-s--c--;--x25o--o--o--;--t01s--k0-k1-c--o--;--",
@@ -502,6 +514,10 @@ pub const ROWS: [(&str, &str, &str); 200] = [
         "x04o--u2-o--u0-;--t00k2-s--k1-k0-c--;--",
         "04!0cc01004004810,05!0cc01104014811,",
     ),
+];
+
+/// Worlds, each with a script and what it tells.
+pub const ROWS_5: [(&str, &str, &str); 25] = [
     (
         "rd03rc10ra03pb4-p31-g61-^56-^76-+07-o5--o3--l1--",
         "x0bo--o--u0-o--u1-o--o--u2-;--",
@@ -627,6 +643,10 @@ pub const ROWS: [(&str, &str, &str); 200] = [
         "x53o--u4-c--u0-;--o--o--u3-;--t10k4-k0-u2-k2-;--s--k2-k3-k1-c--o--u2-;--xc1o--u3-u4-;--",
         "02?13e100000f00000000003010,03!13e100000f00000050103010,02!13e100010f00000050103011,07!033000010f01501155113011,03!013000010f015011c5211021,",
     ),
+];
+
+/// Worlds, each with a script and what it tells.
+pub const ROWS_6: [(&str, &str, &str); 25] = [
     (
         "r904p56-g41-pe0-pd0-|60-o5--o3--l2--",
         "x57o--o--u0-u2-u3-o--u0-o--;--t10k2-s--k1-k2-u2-u3-;--k0-k3-c--o--;--x4do--u3-u2-o--u0-o--;--t01k2-k3-s--k1-k0-c--k0-c--;--;--",
@@ -752,6 +772,10 @@ pub const ROWS: [(&str, &str, &str); 200] = [
         "x33o--o--o--k1-o--;--o--u0-;--",
         "03?0110000,02!0113010,",
     ),
+];
+
+/// Worlds, each with a script and what it tells.
+pub const ROWS_7: [(&str, &str, &str); 25] = [
     (
         "rf00qf11g40-+01-^25-|50-o3--o6--l1--",
         "xe1o--;--",
@@ -877,6 +901,10 @@ pub const ROWS: [(&str, &str, &str); 200] = [
         "x4fo--u3-u2-;--t11s--k2-k3-k1-k0-c--o--u1-;--",
         "03!000000000040104010,08!040001401144114411,",
     ),
+];
+
+/// Worlds, each with a script and what it tells.
+pub const ROWS_8: [(&str, &str, &str); 25] = [
     (
         "r400g81-g41-g31-g50-|24-|64-&17-o2--o5--l1--",
         "x52o--o--o--k1-u0-u0-;--;--t01k2-k3-u4-;--s--k0-k1-c--u0-;--;--x7do--o--o--o--;--t10k0-k1-k2-k3-s--c--o--;--xefo--o--o--k0-k2-u3-;--;--t10k3-s--k2-k0-k1-;--c--k2-c--u3-;--;--",

@@ -1,4 +1,4 @@
-use crate::rows::ROWS;
+use crate::rows::{ROWS_1, ROWS_2, ROWS_3, ROWS_4, ROWS_5, ROWS_6, ROWS_7, ROWS_8};
 use crate::script::{play, world};
 use std::alloc::Global;
 use std::process::Abort;
@@ -133,10 +133,50 @@ fn assert_told(rt: &impl Abort, alloc: Global, row: &(&str, &str, &str)) -> Resu
     Ok(())
 }
 
-#[test]
-fn random_worlds_go_by_their_definition(rt: HostRuntime) -> Result<(), Fail> {
-    for row in &ROWS {
-        assert_told(&rt, rt.alloc(), row)?;
+/// So does that of each row.
+fn each_row_tells(rt: &impl Abort, alloc: Global, rows: &[(&str, &str, &str)]) -> Result<(), Fail> {
+    for row in rows {
+        assert_told(rt, alloc, row)?;
     }
     Ok(())
+}
+
+#[test]
+fn first_random_worlds_go_by_their_definition(rt: HostRuntime) -> Result<(), Fail> {
+    each_row_tells(&rt, rt.alloc(), &ROWS_1)
+}
+
+#[test]
+fn second_random_worlds_go_by_their_definition(rt: HostRuntime) -> Result<(), Fail> {
+    each_row_tells(&rt, rt.alloc(), &ROWS_2)
+}
+
+#[test]
+fn third_random_worlds_go_by_their_definition(rt: HostRuntime) -> Result<(), Fail> {
+    each_row_tells(&rt, rt.alloc(), &ROWS_3)
+}
+
+#[test]
+fn fourth_random_worlds_go_by_their_definition(rt: HostRuntime) -> Result<(), Fail> {
+    each_row_tells(&rt, rt.alloc(), &ROWS_4)
+}
+
+#[test]
+fn fifth_random_worlds_go_by_their_definition(rt: HostRuntime) -> Result<(), Fail> {
+    each_row_tells(&rt, rt.alloc(), &ROWS_5)
+}
+
+#[test]
+fn sixth_random_worlds_go_by_their_definition(rt: HostRuntime) -> Result<(), Fail> {
+    each_row_tells(&rt, rt.alloc(), &ROWS_6)
+}
+
+#[test]
+fn seventh_random_worlds_go_by_their_definition(rt: HostRuntime) -> Result<(), Fail> {
+    each_row_tells(&rt, rt.alloc(), &ROWS_7)
+}
+
+#[test]
+fn eighth_random_worlds_go_by_their_definition(rt: HostRuntime) -> Result<(), Fail> {
+    each_row_tells(&rt, rt.alloc(), &ROWS_8)
 }

@@ -21,4 +21,5 @@ loop-i-preserved c = λ j x low at.
 
 pub returns : goal.returns
 returns c = λ yes j x at.
-    c.loop-i.invariant j x (let e : j < c.loop-i.i = omega (arith, slice_get_within (moment_of c.args.w.now).children j x at, c.loop-i-test.false, c.children-i-end.ensures) in e) at
+    let inside = slice_get_within (moment_of c.args.w.now).children j x at in
+    c.loop-i.invariant j x (let e : j < c.loop-i.i = omega (arith, inside, c.loop-i-test.false, c.children-i-end.ensures) in e) at

@@ -1,4 +1,4 @@
-use Rattle.std.proofs.Common.{◌≡◌, ◌<◌, inl, inr, subst, arith}
+use Rattle.std.proofs.Common.{◌<◌, inl, inr, subst, arith}
 use Rattle.std.proofs.lemmas.Bool.{cases_eq}
 use Rattle.std.proofs.lemmas.Option.{slice_get_within}
 use Rattle.wrapper_core.specs.Events.{IsUpdatable}
@@ -17,4 +17,5 @@ loop-i-preserved g c = λ j low up.
 
 pub returns : goal.returns
 returns g c = λ yes j up.
-    c.loop-i.invariant j (let e : j < c.loop-i.i = omega (arith, slice_get_within (moment_of c.args.w.now).children j up.was up.was_at, c.loop-i-test.false, c.children-i-end.ensures) in e) up
+    let inside = slice_get_within (moment_of c.args.w.now).children j up.was up.was_at in
+    c.loop-i.invariant j (let e : j < c.loop-i.i = omega (arith, inside, c.loop-i-test.false, c.children-i-end.ensures) in e) up

@@ -1,5 +1,5 @@
-use Rattle.std.proofs.Common.{◌≡◌, ◌≤◌, ◌+◌, ◌++◌, ◌∷◌, [], ◌∙◌, length, get_or, take, replicate, sym, ap, arith}
-use Rattle.std.proofs.lemmas.List.{take_more, take_all, replicate_more}
+use Rattle.std.proofs.Common.{◌≡◌, ◌++◌, ◌∷◌, [], ◌∙◌, get_or, replicate, ap, arith}
+use Rattle.std.proofs.lemmas.List.{take_more, replicate_more}
 use Rattle.wrapper_core_tests.proofs.fitting.are_all.Goals as goal
 
 pub loop-k-preserved : goal.loop-k-preserved
@@ -7,4 +7,5 @@ loop-k-preserved c =
     let ws = c.args.widths.now in
     let k = c.loop-k.k in
     let here : get_or ws k 0 ≡ c.args.width = omega arith in
-    take_more ws k 0 c.loop-k-test.true ∙ ap (λ xs. xs ++ get_or ws k 0 ∷ []) c.loop-k.invariant ∙ ap (λ n. replicate k c.args.width ++ n ∷ []) here ∙ replicate_more k c.args.width
+    take_more ws k 0 c.loop-k-test.true ∙ ap (λ xs. xs ++ get_or ws k 0 ∷ []) c.loop-k.invariant
+    ∙ ap (λ n. replicate k c.args.width ++ n ∷ []) here ∙ replicate_more k c.args.width

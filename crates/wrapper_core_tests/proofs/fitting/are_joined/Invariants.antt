@@ -7,4 +7,6 @@ use Rattle.wrapper_core.specs.Start.{IsJoined}
 use Rattle.wrapper_core_tests.proofs.fitting.are_joined.Given as goal
 
 abbrev pub invariant-loop-k : goal.invariant-loop-k
-invariant-loop-k l = (j : ℕ) (kid : Kid) (leaf : Leaf) → j < l.k → slice_get l.m.kids j ≡ Some kid → slice_get l.leaves j ≡ Some leaf → IsJoined model_of IsReadyLeaf l.levels kid leaf
+invariant-loop-k l =
+    (j : ℕ) (kid : Kid) (leaf : Leaf) → j < l.k → slice_get l.m.kids j ≡ Some kid → slice_get l.leaves j ≡ Some leaf →
+    IsJoined model_of IsReadyLeaf l.levels kid leaf

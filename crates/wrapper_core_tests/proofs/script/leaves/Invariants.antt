@@ -1,5 +1,5 @@
 use Rattle.wrapper_core_tests.specs.Board.{AreReady}
 use Rattle.wrapper_core_tests.proofs.script.leaves.Given as goal
 
-abbrev pub invariant-loop-k : goal.invariant-loop-at
-invariant-loop-k l = AreReady l.leaves.items
+abbrev pub invariant-loop-k : goal.invariant-loop-k
+invariant-loop-k g l = AreReady l.leaves.items

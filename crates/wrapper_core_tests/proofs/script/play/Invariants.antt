@@ -2,4 +2,4 @@ use Rattle.wrapper_core_tests.specs.Board.{IsBoard}
 use Rattle.wrapper_core_tests.proofs.script.play.Given as goal
 
 abbrev pub invariant-loop-k : goal.invariant-loop-k
-invariant-loop-k l = IsBoard l.b.inputs l.b.clocks l.b.outputs l.b.registers l.b.world
+invariant-loop-k g l = IsBoard l.b.inputs l.b.clocks l.b.outputs l.b.registers l.b.world
