@@ -1,6 +1,6 @@
 -- The value of a lawful term is a word of its size.
 use Rattle.std.proofs.Common.{◌≡◌, ℕ, ◌<◌, ◌^◌, Bool, true, false, List, [], ◌∷◌, length, map, refl, sym, ◌∙◌, ap, subst}
-use Rattle.std.specs.Prelude.{slice_index, ℤ, pos, int_lt, unsigned_abs, ◌*◌, ◌/◌, ◌%◌, ◌-ℤ◌, if◌then◌else◌}
+use Rattle.std.specs.Prelude.{ℤ, pos, int_lt, unsigned_abs, ◌*◌, ◌/◌, ◌%◌, ◌-ℤ◌, if◌then◌else◌}
 use Rattle.std.specs.List.{AllByRecursion}
 use Rattle.std.proofs.Math.Nat.{mod-lt}
 use Rattle.std.proofs.lemmas.Nat.{pow_pos}
@@ -8,9 +8,8 @@ use Rattle.bit_ops.specs.Width.{IsWidth, WidthsFit}
 use Rattle.bit_ops.specs.Rows as rows
 use Rattle.bit_ops.specs.Rows.{AreWords, value_of}
 use Rattle.bit_ops.specs.declared.operation.Op.{Op}
-use Rattle.bit_ops.specs.declared.value.Bits.{Bits}
 use Rattle.sv_base.specs.declared.refusal.Place.{Place}
-use Rattle.net_ir.specs.declared.term.Term.{Term, Const, Read, Pick, Apply}
+use Rattle.net_ir.specs.declared.term.Term.{Term, Read, Apply}
 use Rattle.net_ir.specs.declared.term.Term.TheOpen as layer
 use Rattle.net_ir.specs.declared.term.Term.TheOpen.{Term-F}
 use Rattle.net_ir.specs.declared.term.Term.TheViews.{roll-Term}

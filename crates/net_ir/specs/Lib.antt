@@ -1,6 +1,6 @@
 pub mod Value
-pub mod Lawful
 pub mod Terms
+pub mod Target
 pub mod Statement
 pub mod Drive
 pub mod Face
@@ -11,6 +11,7 @@ pub mod Stepping
 pub mod Idle
 pub mod Trace
 pub mod Facts
+pub mod Lawful
 pub mod Benched
 pub mod Marks
 pub mod code

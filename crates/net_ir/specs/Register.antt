@@ -3,7 +3,6 @@ use Rattle.std.specs.Prelude.{ℕ, zero, suc, ◌+◌, ◌/◌, ◌%◌, ◌^◌
 use Rattle.net_ir.specs.declared.design.Var.{Var}
 use Rattle.net_ir.specs.declared.design.Driver.{Driver}
 use Rattle.net_ir.specs.declared.design.Spec.{Spec}
-use Rattle.net_ir.specs.Value.{widths_of}
 use Rattle.net_ir.specs.Drive.{holds}
 
 -- a run of bits of a variable that one clocked process writes: its lowest bit, how many bits, and the place of the process among
@@ -15,9 +14,9 @@ pub record Register : Type 0 where
   pub driver : ℕ
 
 -- the place of the driver that has bit k of variable x in a register, where the first of the drivers has place n
-abbrev pub holder_from : ℕ → List ℕ → List Driver → ℕ → ℕ → Option ℕ
-holder_from n ws [] x k = None
-holder_from n ws (d ∷ drivers) x k = if holds ws d x k then Some n else holder_from (n + 1) ws drivers x k
+abbrev pub holder_from : ℕ → List Var → List Driver → ℕ → ℕ → Option ℕ
+holder_from n vars [] x k = None
+holder_from n vars (d ∷ drivers) x k = if holds vars d x k then Some n else holder_from (n + 1) vars drivers x k
 
 -- bit k of variable x, which is of this driver, before the runs of the bits above it
 abbrev pub onto_run : ℕ → ℕ → ℕ → List Register → List Register
@@ -42,7 +41,7 @@ registers_from holder x (v ∷ vars) = runs_from (holder x) x 0 v.width ++ regis
 
 -- the registers of a design, in the order of its variables and then of their lowest bits
 abbrev pub registers_of : Spec → List Register
-registers_of spec = registers_from (holder_from 0 (widths_of spec.vars) spec.drivers) 0 spec.vars
+registers_of spec = registers_from (holder_from 0 spec.vars spec.drivers) 0 spec.vars
 
 -- the bits of a word from `low` on
 abbrev pub part_of : ℕ → ℕ → ℕ → ℕ

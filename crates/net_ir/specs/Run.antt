@@ -3,13 +3,15 @@ use Rattle.std.specs.Prelude.{ℕ, Bool, true, false, ◌==◌, ◌&&◌, List, 
 use Rattle.std.specs.List.{flat_map, list_any}
 use Rattle.net_ir.specs.declared.design.Trigger.{Trigger}
 use Rattle.net_ir.specs.declared.design.Driver.{Driver}
-use Rattle.net_ir.specs.declared.design.Driver.TheVariants.{Assign, Clocked}
+use Rattle.net_ir.specs.declared.design.Driver.TheVariants as driver
+use Rattle.net_ir.specs.declared.design.Driver.TheVariants.{Assign, Comb, Clocked}
+use Rattle.net_ir.specs.declared.design.Var.{Var}
 use Rattle.net_ir.specs.declared.design.Spec.{Spec}
 use Rattle.sv_base.specs.Meaning.{State}
-use Rattle.net_ir.specs.Value.{widths_of}
 use Rattle.net_ir.specs.Face.{ports_of}
 use Rattle.net_ir.specs.Register.{initial_words}
-use Rattle.net_ir.specs.Statement.{Write, writes_of}
+use Rattle.net_ir.specs.Target.{Write}
+use Rattle.net_ir.specs.Statement.{clocked_writes}
 
 -- the state before any step: every input is 0, and every register has its initial word
 abbrev pub start : Spec → State
@@ -29,10 +31,12 @@ abbrev pub occurs : List ℕ → List ℕ → Trigger → Bool
 occurs before after t = edge_at t.var t.falling before after
 
 -- the writes of a driver at a change of the inputs, with every read from the valuation u
-abbrev pub sampled : List ℕ → List ℕ → List ℕ → List ℕ → Driver → List Write
-sampled ws u before after (Assign target value place) = []
-sampled ws u before after (Clocked triggers body place) = if list_any (occurs before after) triggers then writes_of ws u body else []
+abbrev pub sampled : List Var → List ℕ → List ℕ → List ℕ → Driver → List Write
+sampled vars u before after (Assign target value place) = []
+sampled vars u before after (Comb body place) = []
+sampled vars u before after (Clocked triggers body place) = if list_any (occurs before after) triggers then clocked_writes vars u body else []
+sampled vars u before after (driver.Instance made) = []
 
 -- the writes of all drivers
 abbrev pub all_sampled : Spec → List ℕ → List ℕ → List ℕ → List Write
-all_sampled spec u before after = flat_map (sampled (widths_of spec.vars) u before after) spec.drivers
+all_sampled spec u before after = flat_map (sampled spec.vars u before after) spec.drivers

@@ -4,7 +4,6 @@ use Rattle.std.specs.Int.{bit_at}
 use Rattle.sv_base.specs.Steps.{Step, Values, Clocks, set_all}
 use Rattle.sv_base.specs.Meaning.{State}
 use Rattle.net_ir.specs.declared.design.Spec.{Spec}
-use Rattle.net_ir.specs.Value.{widths_of}
 use Rattle.net_ir.specs.Statement.{bit_after}
 use Rattle.net_ir.specs.Register.{Register, registers_of}
 use Rattle.net_ir.specs.Run.{all_sampled}
@@ -16,7 +15,7 @@ pub record Samples (spec : Spec) (u before after kept next : List ℕ) : Type 0 
   pub each : length next ≡ length (registers_of spec)
   pub fits : (i : ℕ) (r : Register) → slice_get (registers_of spec) i ≡ Some r → slice_index next i < 2 ^ r.width
   pub bits : (i k : ℕ) (r : Register) → slice_get (registers_of spec) i ≡ Some r → k < r.width →
-      bit_at (slice_index next i) k ≡ bit_after (widths_of spec.vars) (all_sampled spec u before after) r.var (r.low + k) (bit_at (slice_index kept i) k)
+      bit_at (slice_index next i) k ≡ bit_after (all_sampled spec u before after) r.var (r.low + k) (bit_at (slice_index kept i) k)
 
 -- A step leads from old to new. A data step sets the named inputs and keeps the registers. A clock step sets the named levels,
 -- and registers whose edge occurs sample in the solution before the step.

@@ -9,7 +9,7 @@ pub mod outside;
 pub mod statement;
 pub mod term;
 
-pub use design::{Driver, Role, Spec, Target, Trigger, Var};
+pub use design::{Driver, Given, Input, Instance, Made, Output, Role, Spec, Specs, Trigger, Var};
 pub use outside::face;
-pub use statement::Stmt;
+pub use statement::{Arm, Pos, Stmt, Target};
 pub use term::Term;

@@ -2,14 +2,15 @@
 
 ghost use Rattle.std.specs.Prelude.{◌≡◌, true, length, IfOk, slice_set};
 ghost use Rattle.net_ir.specs.Value.{reads_of};
-ghost use Rattle.net_ir.specs.Statement.{statement_reads};
-ghost use Rattle.net_ir.specs.Drive.{var_list, driver_reads, driver_clocks};
+ghost use Rattle.net_ir.specs.Statement.{statement_reads, reads_of_arm};
+ghost use Rattle.net_ir.specs.Target.{var_list, position_reads, target_reads};
+ghost use Rattle.net_ir.specs.Drive.{driver_reads, driver_clocks, joined_reads, instance_reads};
 ghost use Rattle.net_ir.specs.Face.{clocks_of, all_reads};
 ghost use Rattle.net_ir.specs.Marks.{mark_all, AreMarksOf, is_clear};
-ghost use Rattle.net_ir.specs.code.Classing.{clocked_by};
+ghost use Rattle.net_ir.specs.code.Classing.{clocked_by, labels_read, inputs_read, outputs_read};
 
-use crate::design::{Driver, Spec, Trigger};
-use crate::statement::Stmt;
+use crate::design::{Driver, Input, Instance, Output, Spec, Trigger};
+use crate::statement::{Arm, Pos, Stmt, Target};
 use crate::term::Term;
 use std::alloc::{AllocError, Global};
 
@@ -66,12 +67,77 @@ fn mark_reads(driver: &Driver, marks: &mut Vec<bool>)
     ensures { marks.new.items ≡ mark_all (driver_reads driver.now) marks.old.items }
 {
     match driver {
-        Driver::Assign { value, .. } => mark_term(value, marks),
-        Driver::Clocked { body, .. } => mark_statement(body, marks),
+        Driver::Assign { target, value, .. } => {
+            mark_target(target, marks);
+            mark_term(value, marks);
+        }
+        Driver::Comb { body, .. } | Driver::Clocked { body, .. } => mark_statement(body, marks),
+        Driver::Instance(instance) => mark_instance(instance, marks),
+    }
+}
+
+/// Marks what the connections of an instance read.
+fn mark_instance(instance: &Instance, marks: &mut Vec<bool>)
+    ensures { marks.new.items ≡ mark_all (instance_reads instance.now) marks.old.items }
+{
+    mark_inputs(instance.inputs.as_slice(), marks);
+    mark_outputs(instance.outputs.as_slice(), marks);
+}
+
+/// Marks what connections to inputs read.
+fn mark_inputs(inputs: &[Input], marks: &mut Vec<bool>)
+    ensures { marks.new.items ≡ mark_all (inputs_read inputs.now) marks.old.items }
+{
+    for input in inputs {
+        mark_term(&input.value, marks);
+    }
+}
+
+/// Marks what the positions of connections to outputs read.
+fn mark_outputs(outputs: &[Output], marks: &mut Vec<bool>)
+    ensures { marks.new.items ≡ mark_all (outputs_read outputs.now) marks.old.items }
+{
+    for output in outputs {
+        mark_joined(&output.target, marks);
+    }
+}
+
+/// Marks what the positions of a connection to an output read, where it is joined to a target.
+fn mark_joined(target: &Option<Target>, marks: &mut Vec<bool>)
+    ensures { marks.new.items ≡ mark_all (joined_reads target.now) marks.old.items }
+{
+    match target {
+        Some(target) => mark_target(target, marks),
+        None => {}
+    }
+}
+
+/// Marks what the positions in a target read.
+fn mark_target(target: &Target, marks: &mut Vec<bool>)
+    ensures { marks.new.items ≡ mark_all (target_reads target.now) marks.old.items }
+{
+    match target {
+        Target::Of { pos, .. } => mark_position(pos, marks),
+        Target::List(parts) => {
+            for part in parts.as_slice() {
+                mark_target(part, marks);
+            }
+        }
+    }
+}
+
+/// Marks what a position reads, where there is one.
+fn mark_position(pos: &Option<Pos>, marks: &mut Vec<bool>)
+    ensures { marks.new.items ≡ mark_all (position_reads pos.now) marks.old.items }
+{
+    match pos {
+        Some(pos) => mark_term(&pos.at, marks),
+        None => {}
     }
 }
 
 /// Marks what a statement's expressions read.
+#[cycle(marking)]
 fn mark_statement(statement: &Stmt, marks: &mut Vec<bool>)
     ensures { marks.new.items ≡ mark_all (statement_reads statement.now) marks.old.items }
 {
@@ -81,7 +147,42 @@ fn mark_statement(statement: &Stmt, marks: &mut Vec<bool>)
                 mark_statement(part, marks);
             }
         }
-        Stmt::Assign { value, .. } => mark_term(value, marks),
+        Stmt::If(test, first, second) => {
+            mark_term(test, marks);
+            mark_statement(first.get(), marks);
+            match second {
+                Some(second) => mark_statement(second.get(), marks),
+                None => {}
+            }
+        }
+        Stmt::Case(value, arms) => {
+            mark_term(value, marks);
+            for arm in arms.as_slice() {
+                mark_arm(arm, marks);
+            }
+        }
+        Stmt::Assign { target, value, .. } => {
+            mark_target(target, marks);
+            mark_term(value, marks);
+        }
+    }
+}
+
+/// Marks what the labels and the body of an arm read.
+#[cycle(marking)]
+fn mark_arm(arm: &Arm, marks: &mut Vec<bool>)
+    ensures { marks.new.items ≡ mark_all (reads_of_arm arm.now) marks.old.items }
+{
+    mark_labels(arm.labels.as_slice(), marks);
+    mark_statement(&arm.body, marks);
+}
+
+/// Marks what the labels of an arm read.
+fn mark_labels(labels: &[Term], marks: &mut Vec<bool>)
+    ensures { marks.new.items ≡ mark_all (labels_read labels.now) marks.old.items }
+{
+    for label in labels {
+        mark_term(label, marks);
     }
 }
 
@@ -109,7 +210,7 @@ fn mark_clocks(driver: &Driver, marks: &mut Vec<bool>)
     ensures { marks.new.items ≡ mark_all (driver_clocks driver.now) marks.old.items }
 {
     match driver {
-        Driver::Assign { .. } => {}
+        Driver::Assign { .. } | Driver::Comb { .. } | Driver::Instance(_) => {}
         Driver::Clocked { triggers, .. } => mark_triggers(triggers.as_slice(), marks),
     }
 }
