@@ -9,11 +9,10 @@ use Rattle.std.proofs.lemmas.Nat.Bits.{bit_at-lt}
 use Rattle.net_ir.specs.declared.design.Var.{Var}
 use Rattle.net_ir.specs.declared.design.Driver.{Driver}
 use Rattle.net_ir.specs.declared.design.Spec.{Spec}
-use Rattle.net_ir.specs.Value.{widths_of}
 use Rattle.net_ir.specs.Drive.{NoneHolds}
 use Rattle.net_ir.specs.Register.{Register, holder_from, onto_run, with_bit, runs_from, registers_from, registers_of}
 use Rattle.plain_run.proofs.Elements.{all_from, all_join, all_get}
-use Rattle.plain_run.proofs.Order.{and_of_true, front_of_and, back_of_and, test_eq, eq_test, test_lt, lt_test}
+use Rattle.plain_run.proofs.Numbers.{and_of_true, front_of_and, back_of_and, test_eq, eq_test, test_lt, lt_test}
 use Rattle.plain_run.proofs.Registers.{IsRun, IsRegister, runs_sound, registers_sound, holder_of}
 
 -- a register has bit k of variable x
@@ -165,12 +164,12 @@ bit_of_none (q ∷ registers) words x k other none =
       by_test true is = absurd (none.0 (test_covers q x k is))
 
 -- what no driver holds is no register's
-none_holder : (ws : List ℕ) (m : ℕ) (drivers : List Driver) (x k : ℕ) → NoneHolds ws drivers x k → holder_from m ws drivers x k ≡ None
-none_holder ws m [] x k none = refl
-none_holder ws m (d ∷ drivers) x k none =
-    ap (λ (t : Bool). if t then Some m else holder_from (m + 1) ws drivers x k) none.0 ∙ none_holder ws (m + 1) drivers x k none.1
+none_holder : (vars : List Var) (m : ℕ) (drivers : List Driver) (x k : ℕ) → NoneHolds vars drivers x k → holder_from m vars drivers x k ≡ None
+none_holder vars m [] x k none = refl
+none_holder vars m (d ∷ drivers) x k none =
+    ap (λ (t : Bool). if t then Some m else holder_from (m + 1) vars drivers x k) none.0 ∙ none_holder vars (m + 1) drivers x k none.1
 
-pub bit_not_held : (spec : Spec) (words : List ℕ) (x k other : ℕ) → NoneHolds (widths_of spec.vars) spec.drivers x k →
+pub bit_not_held : (spec : Spec) (words : List ℕ) (x k other : ℕ) → NoneHolds spec.vars spec.drivers x k →
     bit_in (registers_of spec) words x k other ≡ other
 bit_not_held spec words x k other none =
     bit_of_none (registers_of spec) words x k other
@@ -178,5 +177,5 @@ bit_not_held spec words x k other none =
       no_register : (q : Register) → IsRegister (holder_of spec) 0 spec.vars q → Covers q x k → ⊥
       no_register q is covers =
           let held : holder_of spec x k ≡ Some q.driver = subst (λ y. holder_of spec y k ≡ Some q.driver) covers.var (is.run.held k covers.from covers.to) in
-          let clash : None ≡ Some q.driver = sym (none_holder (widths_of spec.vars) 0 spec.drivers x k none) ∙ held in
+          let clash : None ≡ Some q.driver = sym (none_holder spec.vars 0 spec.drivers x k none) ∙ held in
           cc

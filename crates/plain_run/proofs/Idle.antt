@@ -1,6 +1,6 @@
 -- Idle inputs are idle: nothing depends on their levels.
 use Rattle.std.proofs.Common.{◌≡◌, ℕ, ◌<◌, ◌≤◌, ◌^◌, ◌+◌, List, length, get_or, Bool, true, false, refl, sym, ◌∙◌, ap, subst, Option, None, Some, inl, inr}
-use Rattle.std.specs.Prelude.{slice_index, slice_get, ◌⊎◌, if◌then◌else◌}
+use Rattle.std.specs.Prelude.{slice_index, slice_get, ◌==◌, ◌&&◌, nat_lt, ◌⊎◌, if◌then◌else◌}
 use Rattle.std.specs.List.{AllByRecursion}
 use Rattle.std.specs.Int.{bit_at}
 use Rattle.std.proofs.lemmas.List.{get_or_past}
@@ -15,24 +15,27 @@ use Rattle.net_ir.specs.declared.design.Role.{Role}
 use Rattle.net_ir.specs.declared.design.Role.TheVariants.{Input, Output, Inner}
 use Rattle.net_ir.specs.declared.design.Var.{Var}
 use Rattle.net_ir.specs.declared.design.Trigger.{Trigger}
-use Rattle.net_ir.specs.declared.design.Target.{Target}
 use Rattle.net_ir.specs.declared.design.Driver.{Driver}
-use Rattle.net_ir.specs.declared.design.Driver.TheVariants.{Assign, Clocked}
+use Rattle.net_ir.specs.declared.design.Driver.TheVariants as driver
+use Rattle.net_ir.specs.declared.design.Driver.TheVariants.{Assign, Comb, Clocked}
 use Rattle.net_ir.specs.declared.design.Spec.{Spec}
-use Rattle.net_ir.specs.Value.{widths_of, val}
-use Rattle.net_ir.specs.Drive.{driver_reads, driver_clocks, var_list, assigned_bit, writes_bit, holds}
+use Rattle.net_ir.specs.Value.{widths_of, val, reads_of}
+use Rattle.net_ir.specs.Target.{var_list, target_reads}
+use Rattle.net_ir.specs.Drive.{gives, driver_reads, driver_clocks, holds}
 use Rattle.net_ir.specs.Face.{stands_in, clocks_of, all_reads, input_class, class_of, port_of, ports_of}
 use Rattle.net_ir.specs.Solution.{Solves, IsDriven, IsHeld}
 use Rattle.net_ir.specs.Stepping.{Samples}
-use Rattle.plain_run.specs.Plain.{IsPlain, IsWhole, IsInput, SparesInputs, IsPlainClock, IsPlainTrigger, HasPlainClocks}
+use Rattle.plain_run.specs.Plain.{IsPlain, IsWhole, IsInput, SparesInputs, IsPlainClock, IsPlainTrigger, HasPlainClocks, written_by}
 use Rattle.net_ir.specs.Register.{Register, registers_of}
 use Rattle.net_ir.specs.Facts.{HasPortsFirst}
 use Rattle.net_ir.specs.Idle.{DifferInIdle, IgnoresIdle}
-use Rattle.plain_run.proofs.Terms.{AgreeAt, operand_is_local}
+use Rattle.plain_run.proofs.Terms.{AgreeAt, operand_is_local, all_back}
 use Rattle.plain_run.proofs.Elements.{all_from, all_both, all_flat, each_flat}
 use Rattle.plain_run.proofs.WordsBy.{words_by, length-words_by, word_at}
 use Rattle.plain_run.proofs.Sampled.{ReadsAgree, all_stand, samples_same}
-use Rattle.plain_run.proofs.Order.{held_is_written}
+use Rattle.plain_run.proofs.Numbers.{front_of_and, test_eq}
+use Rattle.plain_run.proofs.Wholes.{all_standing}
+use Rattle.plain_run.proofs.Order.{has_whole, gives_whole, held_named}
 use Rattle.plain_run.proofs.Registers.{holder_holds, register_bit}
 use Rattle.plain_run.proofs.Unique.{length-widths, element_at}
 use Rattle.plain_run.proofs.LawfulReads.{driver_there}
@@ -76,12 +79,12 @@ agree_read spec u v x but there here =
     but x found.0 found.1 (read_class spec x found.0.role here)
 
 -- so at what each driver reads
-agree_reads : (spec : Spec) (u v : List ℕ) → AllByRecursion (IsWhole (widths_of spec.vars)) spec.drivers → AgreeButIdle spec u v → AllByRecursion (ReadsAgree u v) spec.drivers
+agree_reads : (spec : Spec) (u v : List ℕ) → AllByRecursion (IsWhole spec.vars) spec.drivers → AgreeButIdle spec u v → AllByRecursion (ReadsAgree u v) spec.drivers
 agree_reads spec u v whole but =
     let ws = widths_of spec.vars in
     let Stands : ℕ → Type 0 = λ x. stands_in x (all_reads spec) ≡ true in
-    all_both (IsWhole ws) (λ d. AllByRecursion Stands (driver_reads d)) (ReadsAgree u v)
-    (λ d whole stand. all_both (λ x. x < length ws) Stands (λ x. slice_index u x ≡ slice_index v x) (λ x there here. agree_read spec u v x but there here) (driver_reads d) (driver_there ws d whole) stand)
+    all_both (IsWhole spec.vars) (λ d. AllByRecursion Stands (driver_reads d)) (ReadsAgree u v)
+    (λ d whole stand. all_both (λ x. x < length ws) Stands (λ x. slice_index u x ≡ slice_index v x) (λ x there here. agree_read spec u v x but there here) (driver_reads d) (driver_there spec.vars d whole) stand)
     spec.drivers whole (each_flat Stands driver_reads spec.drivers (all_stand (all_reads spec)))
 
 -- and the words of outputs are the same
@@ -105,6 +108,8 @@ trigger_clock spec (Some clock) plain = (plain, tt)
 
 plain_clocks : (spec : Spec) (d : Driver) → HasPlainClocks spec d → AllByRecursion (IsPlainClock spec) (driver_clocks d)
 plain_clocks spec (Assign target value at) plain = tt
+plain_clocks spec (Comb body at) plain = tt
+plain_clocks spec (driver.Instance made) plain = tt
 plain_clocks spec (Clocked triggers body at) plain =
     all_flat (IsPlainClock spec) (λ (t : Trigger). var_list t.var) triggers
     (all_from (λ (t : Trigger). IsPlainTrigger spec t.var) (λ (t : Trigger). AllByRecursion (IsPlainClock spec) (var_list t.var)) (λ t clock. trigger_clock spec t.var clock) triggers plain)
@@ -170,30 +175,42 @@ agree_inner spec u v x long long_v but inner = by_case (slice_get_cases spec.var
   by_case (inr past) =
       get_or_past u x 0 (subst (λ n. n ≤ x) (sym long) past.0) ∙ sym (get_or_past v x 0 (subst (λ n. n ≤ x) (sym long_v) past.0))
 
--- a bit that an assignment gives is one that it writes
-given_is_written : (ws : List ℕ) (target : Target) (word x k bit : ℕ) → assigned_bit ws target word x k ≡ Some bit → writes_bit ws target x k ≡ true
-given_is_written ws target word x k bit given = by_test (writes_bit ws target x k) refl where
-  by_test : (b : Bool) → writes_bit ws target x k ≡ b → b ≡ true
-  by_test true is = refl
+-- a bit that the assignment of a word to the whole of a variable gives is of that variable
+given_var : (var x k width word bit : ℕ) → (if (var == x) && nat_lt k width then Some (bit_at word k) else None) ≡ Some bit → var ≡ x
+given_var var x k width word bit given = by_test ((var == x) && nat_lt k width) refl where
+  by_test : (b : Bool) → ((var == x) && nat_lt k width) ≡ b → var ≡ x
+  by_test true is = test_eq var x (front_of_and (var == x) (nat_lt k width) is)
   by_test false is = absurd (let clash : None ≡ Some bit = subst (λ (b : Bool). (if b then Some (bit_at word k) else None) ≡ Some bit) is given in cc)
 
 -- a driver that is met in the one is met in the other
-driven_too : (spec : Spec) (u v : List ℕ) (d : Driver) → length u ≡ length spec.vars → length v ≡ length spec.vars → AgreeButIdle spec u v → SparesInputs spec.vars d → ReadsAgree u v d → IsDriven (widths_of spec.vars) u d → IsDriven (widths_of spec.vars) v d
-driven_too spec u v (Clocked triggers body at) long long_v but spares agree driven x k bit given = absurd (let clash : None ≡ Some bit = given in cc)
-driven_too spec u v (Assign target value at) long long_v but spares agree driven x k bit given =
+driven_too : (spec : Spec) (u v : List ℕ) (d : Driver) → length u ≡ length spec.vars → length v ≡ length spec.vars → AgreeButIdle spec u v →
+    IsWhole spec.vars d → SparesInputs spec.vars d → ReadsAgree u v d → IsDriven spec.vars u d → IsDriven spec.vars v d
+driven_too spec u v (Clocked triggers body at) long long_v but whole spares agree driven x k bit given = absurd (let clash : None ≡ Some bit = given in cc)
+driven_too spec u v (Comb body at) long long_v but whole spares agree driven x k bit given = absurd whole
+driven_too spec u v (driver.Instance made) long long_v but whole spares agree driven x k bit given = absurd whole
+driven_too spec u v (Assign target value at) long long_v but whole spares agree driven x k bit given =
     let ws = widths_of spec.vars in
-    let same : val ws u value ≡ val ws v value = ap (λ p. p.1) (operand_is_local ws value u v agree) in
-    let written = given_is_written ws target (val ws v value) x k bit given in
-    ap (λ n. bit_at n k) (sym (agree_inner spec u v x long long_v but (spares x k written)))
-    ∙ driven x k bit (subst (λ word. assigned_bit ws target word x k ≡ Some bit) (sym same) given)
+    let has = has_whole spec.vars target value whole in
+    let same : val ws u value ≡ val ws v value =
+    ap (λ p. p.1) (operand_is_local ws value u v (all_back (λ y. slice_index u y ≡ slice_index v y) (target_reads target) (reads_of value) agree)) in
+    let on_v = gives_whole spec.vars target value at v x k has in
+    let on_u = gives_whole spec.vars target value at u x k has in
+    let alike : gives spec.vars (Assign target value at) u x k ≡ Some bit =
+    on_u ∙ ap (λ word. if (has.var == x) && nat_lt k has.variable.width then Some (bit_at word k) else None) same ∙ sym on_v ∙ given in
+    let here : has.var ≡ x = given_var has.var x k has.variable.width (val ws v value) bit (sym on_v ∙ given) in
+    let inner : IsInput spec.vars has.var → ⊥ = (subst (AllByRecursion (λ y. IsInput spec.vars y → ⊥)) has.names spares).0 in
+    ap (λ n. bit_at n k) (sym (agree_inner spec u v x long long_v but (subst (λ y. IsInput spec.vars y → ⊥) here inner)))
+    ∙ driven x k bit alike
 
 -- the variable of a register is no input
-register_inner : (spec : Spec) (i : ℕ) (r : Register) (k : ℕ) → IsPlain spec → slice_get (registers_of spec) i ≡ Some r → k < r.width → IsInput spec.vars r.var → ⊥
+register_inner : (spec : Spec) (i : ℕ) (r : Register) (k : ℕ) → IsPlain spec → slice_get (registers_of spec) i ≡ Some r → k < r.width →
+    IsInput spec.vars r.var → ⊥
 register_inner spec i r k plain at below =
-    let ws = widths_of spec.vars in
-    holder_holds ws 0 spec.drivers r.var (r.low + k) r.driver (IsInput spec.vars r.var → ⊥)
-    (all_from (SparesInputs spec.vars) (λ d. holds ws d r.var (r.low + k) ≡ true → IsInput spec.vars r.var → ⊥)
-    (λ d spares held. spares r.var (r.low + k) (held_is_written ws d r.var (r.low + k) held)) spec.drivers plain.inner) (register_bit spec i r k at below).held
+    let vars = spec.vars in
+    holder_holds vars 0 spec.drivers r.var (r.low + k) r.driver (IsInput vars r.var → ⊥)
+    (all_from (SparesInputs vars) (λ d. holds vars d r.var (r.low + k) ≡ true → IsInput vars r.var → ⊥)
+    (λ d spares held. all_standing (λ y. IsInput vars y → ⊥) (written_by d) r.var spares (held_named vars d r.var (r.low + k) held)) spec.drivers plain.inner)
+    (register_bit spec i r k at below).held
 
 held_too : (spec : Spec) (kept kept_2 u v : List ℕ) (i : ℕ) (r : Register) → IsPlain spec → length u ≡ length spec.vars → length v ≡ length spec.vars → AgreeButIdle spec u v → kept_2 ≡ kept → slice_get (registers_of spec) i ≡ Some r → IsHeld kept u i r → IsHeld kept_2 v i r
 held_too spec kept kept_2 u v i r plain long long_v but same at held k below =
@@ -218,20 +235,22 @@ states_agree spec s t first differ = record {
 
 idle_solves : (spec : Spec) (s t : State) (u : List ℕ) → IsPlain spec → StatesAgree spec s t → Solves spec s u → Solves spec t (with_idle spec t.inputs u)
 idle_solves spec s t u plain agree solves =
-    let ws = widths_of spec.vars in
     let v = with_idle spec t.inputs u in
     let long = solves.valuation.each in
     let long_v : length v ≡ length spec.vars = length-words_by (idle_word spec t.inputs u) 0 spec.vars in
-    let but : AgreeButIdle spec u v = agree_but spec t.inputs u in record {
+    let but : AgreeButIdle spec u v = agree_but spec t.inputs u in
+    let Meets : Driver → Type 0 = λ d. IsWhole spec.vars d × (SparesInputs spec.vars d × ReadsAgree u v d) in record {
       valuation = record {
         each = long_v;
         fits = λ x w at. fits x w at (idle_or_not (class_of spec x w.role));
       };
       set = λ x w at input. set x w at input (idle_or_not (class_of spec x w.role));
       registered = λ i r at. held_too spec s.registers t.registers u v i r plain long long_v but agree.registers at (solves.registered i r at);
-      driven = all_both (IsDriven ws u) (λ d. SparesInputs spec.vars d × ReadsAgree u v d) (IsDriven ws v)
-          (λ d driven both. driven_too spec u v d long long_v but both.0 both.1 driven) spec.drivers solves.driven
-          (all_both (SparesInputs spec.vars) (ReadsAgree u v) (λ d. SparesInputs spec.vars d × ReadsAgree u v d) (λ d p q. (p, q)) spec.drivers plain.inner (agree_reads spec u v plain.whole but));
+      driven = all_both (IsDriven spec.vars u) Meets (IsDriven spec.vars v)
+          (λ d driven both. driven_too spec u v d long long_v but both.0 both.1.0 both.1.1 driven) spec.drivers solves.driven
+          (all_both (IsWhole spec.vars) (λ d. SparesInputs spec.vars d × ReadsAgree u v d) Meets (λ d p q. (p, q)) spec.drivers plain.whole
+          (all_both (SparesInputs spec.vars) (ReadsAgree u v) (λ d. SparesInputs spec.vars d × ReadsAgree u v d) (λ d p q. (p, q))
+          spec.drivers plain.inner (agree_reads spec u v plain.whole but)));
       undriven = λ x k w at inner within none.
           ap (λ n. bit_at n k) (sym (but x w at (inner_class spec x w.role inner))) ∙ solves.undriven x k w at inner within none;
     } where
@@ -253,7 +272,7 @@ plain_idle spec plain s t u differ solves =
       outputs = outputs_same spec u v solves.valuation.each (length-words_by (idle_word spec t.inputs u) 0 spec.vars) but;
       samples = λ after others next long_after long_others same samples.
           subst (λ kept. Samples spec v t.inputs others kept next) (sym agree.registers)
-          (samples_same spec u v s.inputs t.inputs after others s.registers next
+          (samples_same spec u v s.inputs t.inputs after others s.registers next plain.whole
           (agree_clocks spec s.inputs t.inputs plain differ.long differ.also_long (ap (λ (h : Held). h.levels) differ.same))
           (agree_clocks spec after others plain long_after long_others same) (agree_reads spec u v plain.whole but) samples);
     }

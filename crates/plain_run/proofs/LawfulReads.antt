@@ -11,18 +11,23 @@ use Rattle.net_ir.specs.declared.term.Term.TheOpen.{Term-F}
 use Rattle.net_ir.specs.declared.term.Term.TheViews.{roll-Term}
 use Rattle.net_ir.specs.declared.term.Term.TheVariants.{rolls-Const, rolls-Read, rolls-Pick, rolls-Apply, outs-Const, outs-Read, outs-Pick, outs-Apply}
 use Rattle.net_ir.specs.declared.term.Term.TheFolds.{map-Term, fold_out-Term, ind-Term, every_held-Term}
+use Rattle.net_ir.specs.declared.design.Var.{Var}
+use Rattle.net_ir.specs.declared.statement.Target.{Target}
 use Rattle.net_ir.specs.declared.statement.Stmt.{Stmt}
-use Rattle.net_ir.specs.declared.statement.Stmt.TheFolds.{every-Stmt}
 use Rattle.net_ir.specs.declared.design.Driver.{Driver}
-use Rattle.net_ir.specs.declared.design.Driver.TheVariants.{Assign, Clocked}
-use Rattle.net_ir.specs.Value.{reads_of, reads_of_layer}
+use Rattle.net_ir.specs.declared.design.Driver.TheVariants as driver
+use Rattle.net_ir.specs.declared.design.Driver.TheVariants.{Assign, Comb, Clocked}
+use Rattle.net_ir.specs.Value.{widths_of, reads_of, reads_of_layer}
+use Rattle.net_ir.specs.Target.{target_reads}
 use Rattle.net_ir.specs.Statement.{statement_reads}
 use Rattle.net_ir.specs.Drive.{driver_reads}
 use Rattle.net_ir.specs.Lawful.{IsLawfulLayer, IsLawful}
-use Rattle.plain_run.specs.Plain.{IsWholeLayer, IsWhole}
+use Rattle.plain_run.specs.Plain.{IsPlainStmt, IsWholeTo, IsWhole}
 use Rattle.plain_run.proofs.Elements.{all_both, all_flat, all_held, all_join}
+use Rattle.plain_run.proofs.Statements.{by_layers, reads_block, reads_assign}
 use Rattle.plain_run.proofs.Layers.{lawful_read, lawful_pick}
-use Rattle.plain_run.proofs.Statements.{reads_block, reads_assign, every_by_layers, lawful_value}
+use Rattle.plain_run.proofs.Order.{has_whole}
+use Rattle.plain_run.proofs.Wholes.{whole_reads}
 
 -- the variables of a list are there
 abbrev pub AreThere : List ℕ → List ℕ → Type 0
@@ -87,14 +92,27 @@ there_layer ws (layer.Apply op width lo held) =
 pub lawful_reads : (ws : List ℕ) (t : Term) → IsLawful ws t → AreThere ws (reads_of t)
 lawful_reads ws = ind-Term (ReadsThere ws) (λ x y is. subst (λ z. ReadsThere ws (roll-Term z)) is (there_layer ws y))
 
--- ---- statements and drivers
+-- ---- statements
 
-statement_there : (ws : List ℕ) (s : Stmt) → every-Stmt (IsWholeLayer ws) s → AreThere ws (statement_reads s)
-statement_there ws =
-    every_by_layers (IsWholeLayer ws) (λ s. AreThere ws (statement_reads s))
+assigned_there : (vars : List Var) (to : Target) (value : Term) → IsWholeTo (widths_of vars) to value → AreThere (widths_of vars) (target_reads to ++ reads_of value)
+assigned_there vars to value whole =
+    let ws = widths_of vars in
+    all_join (λ x. x < length ws) (target_reads to) (reads_of value)
+    (subst (AreThere ws) (sym (whole_reads to (has_whole vars to value whole).var (has_whole vars to value whole).is)) tt)
+    (lawful_reads ws value (has_whole vars to value whole).whole.lawful)
+
+-- a plain statement reads variables that are there
+pub statement_there : (vars : List Var) (s : Stmt) → IsPlainStmt vars s → AreThere (widths_of vars) (statement_reads s)
+statement_there vars =
+    let ws = widths_of vars in
+    by_layers vars (λ s. AreThere ws (statement_reads s))
     (λ parts each. subst (AreThere ws) (sym (reads_block parts)) (all_flat (λ x. x < length ws) statement_reads parts each))
-    (λ blocking target value here. subst (AreThere ws) (sym (reads_assign blocking target value)) (lawful_reads ws value (lawful_value ws target value here.1)))
+    (λ blocking to value whole. subst (AreThere ws) (sym (reads_assign blocking to value)) (assigned_there vars to value whole))
 
-pub driver_there : (ws : List ℕ) (d : Driver) → IsWhole ws d → AreThere ws (driver_reads d)
-driver_there ws (Assign target value at) whole = lawful_reads ws value (lawful_value ws target value whole)
-driver_there ws (Clocked triggers body at) whole = statement_there ws body whole
+-- ---- drivers
+
+pub driver_there : (vars : List Var) (d : Driver) → IsWhole vars d → AreThere (widths_of vars) (driver_reads d)
+driver_there vars (Assign to value at) whole = assigned_there vars to value whole
+driver_there vars (Comb body at) whole = absurd whole
+driver_there vars (Clocked triggers body at) whole = statement_there vars body whole
+driver_there vars (driver.Instance made) whole = absurd whole

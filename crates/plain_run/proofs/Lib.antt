@@ -1,12 +1,17 @@
 pub mod Terms
 pub mod Layers
 pub mod Elements
+pub mod Variables
 pub mod Statements
+pub mod Numbers
+pub mod Names
+pub mod Wholes
 pub mod Order
 pub mod Registers
 pub mod Unique
 pub mod Passes
 pub mod Solved
+pub mod WholeBits
 pub mod Writes
 pub mod LawfulReads
 pub mod Fits

@@ -1,27 +1,37 @@
--- Marks of variables, and the loops that set and read them.
+-- Names of targets and marks of variables, and the loops that set and read them.
 use Rattle.std.proofs.Common.{◌≡◌, ℕ, zero, suc, ◌<◌, ◌≤◌, ◌+◌, List, [], ◌∷◌, ◌++◌, length, drop, get_or, Bool, true, false, refl, sym, ◌∙◌, ap, subst, arith, add-one, drop-cons, inl, inr}
 use Rattle.std.specs.Prelude.{◌&&◌, ◌||◌, ◌==◌, slice_index_or, slice_set, replicate, ◌⊎◌}
 use Rattle.std.specs.List.{flat_map, list_all}
 use Rattle.std.proofs.lemmas.Bool.Decides.{nat_tests}
-use Rattle.std.proofs.lemmas.List.{get_or-set_same, get_or-set_other, drop_all, length-set, length-replicate}
+use Rattle.std.proofs.lemmas.List.{append-nil, get_or-set_same, get_or-set_other, drop_all, length-set, length-replicate}
 use Rattle.std.proofs.lemmas.List.Folds.{list_all-append, flat_map-map}
 use Rattle.std.proofs.lemmas.List.Concat.{flat_map-append}
 use Rattle.bit_ops.specs.declared.operation.Op.{Op}
-use Rattle.net_ir.specs.declared.term.Term.{Term, Pick, Apply}
-use Rattle.net_ir.specs.declared.term.Term.TheVariants.{outs-Pick, outs-Apply}
+use Rattle.net_ir.specs.declared.term.Term.{Term, Apply}
+use Rattle.net_ir.specs.declared.term.Term.TheVariants.{outs-Apply}
 use Rattle.net_ir.specs.declared.term.Term.TheFolds.{map-Term, fold_out-Term}
-use Rattle.net_ir.specs.declared.design.Target.{Target}
-use Rattle.net_ir.specs.declared.statement.Stmt.{Stmt, Block, Assign}
-use Rattle.net_ir.specs.declared.statement.Stmt.TheVariants.{outs-Block, outs-Assign}
+use Rattle.net_ir.specs.declared.statement.Target.{Target, List as Parts}
+use Rattle.net_ir.specs.declared.statement.Target.TheOpen as target
+use Rattle.net_ir.specs.declared.statement.Target.TheOpen.{Target-F}
+use Rattle.net_ir.specs.declared.statement.Target.TheVariants.{outs-List}
+use Rattle.net_ir.specs.declared.statement.Target.TheViews.{out-Target}
+use Rattle.net_ir.specs.declared.statement.Target.TheFolds.{map-Target, fold_out-Target}
+use Rattle.net_ir.specs.declared.statement.Arm.{Arm}
+use Rattle.net_ir.specs.declared.statement.Stmt.{Stmt, Block, Case, Assign}
+use Rattle.net_ir.specs.declared.statement.Stmt.TheOpen as statement
+use Rattle.net_ir.specs.declared.statement.Stmt.TheOpen.{Stmt-F}
+use Rattle.net_ir.specs.declared.statement.Stmt.TheVariants.{outs-Block, outs-Case, outs-Assign}
+use Rattle.net_ir.specs.declared.statement.Stmt.TheViews.{out-Stmt}
 use Rattle.net_ir.specs.declared.statement.Stmt.TheFolds.{map-Stmt, fold_out-Stmt}
 use Rattle.net_ir.specs.Value.{reads_of, reads_of_layer}
-use Rattle.net_ir.specs.Statement.{targets_of, targets_of_layer}
-use Rattle.net_ir.specs.Drive.{target_var, var_list}
+use Rattle.net_ir.specs.Target.{target_vars, target_vars_layer, target_reads, target_reads_layer}
+use Rattle.net_ir.specs.Statement.{targets_of, targets_of_layer, arm_targets}
 use Rattle.net_ir.specs.Face.{stands_in}
 use Rattle.net_ir.specs.Marks.{mark_all, AreMarksOf}
-use Rattle.plain_run.specs.code.Marks.{named_by}
+use Rattle.plain_run.specs.Plain.{named_by}
+use Rattle.plain_run.specs.code.Marks.{targets_of_arm, named_in, named_in_arm}
 
--- ---- what terms and statements read and write
+-- ---- what terms read, and what targets name
 
 pub reads_apply : (op : Op) (width lo : ℕ) (args : List Term) → reads_of (Apply op width lo args) ≡ flat_map reads_of args
 reads_apply op width lo args =
@@ -29,51 +39,64 @@ reads_apply op width lo args =
     ∙ ap (λ x. reads_of_layer (map-Term Term (List ℕ) reads_of x)) (outs-Apply op width lo args)
     ∙ flat_map-map (λ (reads : List ℕ). reads) reads_of args
 
-pub reads_pick : (base : Term) (low : ℕ) (at : Term) (at_signed down : Bool) (width : ℕ) →
-    reads_of (Pick base low at at_signed down width) ≡ reads_of base ++ reads_of at
-reads_pick base low at at_signed down width =
-    fold_out-Term (List ℕ) reads_of_layer (Pick base low at at_signed down width)
-    ∙ ap (λ x. reads_of_layer (map-Term Term (List ℕ) reads_of x)) (outs-Pick base low at at_signed down width)
+pub vars_layer : (t : Target) (x : Target-F Target) → out-Target t ≡ x → target_vars t ≡ target_vars_layer (map-Target Target (List ℕ) target_vars x)
+vars_layer t x is = fold_out-Target (List ℕ) target_vars_layer t ∙ ap (λ y. target_vars_layer (map-Target Target (List ℕ) target_vars y)) is
 
-pub block_targets : (parts : List Stmt) → targets_of (Block parts) ≡ flat_map targets_of parts
-block_targets parts =
-    fold_out-Stmt (List Target) targets_of_layer (Block parts)
-    ∙ ap (λ x. targets_of_layer (map-Stmt Stmt (List Target) targets_of x)) (outs-Block parts)
-    ∙ flat_map-map (λ (ts : List Target). ts) targets_of parts
+pub reads_layer : (t : Target) (x : Target-F Target) → out-Target t ≡ x → target_reads t ≡ target_reads_layer (map-Target Target (List ℕ) target_reads x)
+reads_layer t x is = fold_out-Target (List ℕ) target_reads_layer t ∙ ap (λ y. target_reads_layer (map-Target Target (List ℕ) target_reads y)) is
+
+pub parts_vars : (parts : List Target) → target_vars (Parts parts) ≡ flat_map target_vars parts
+parts_vars parts = vars_layer (Parts parts) (target.List parts) (outs-List parts) ∙ flat_map-map (λ (vars : List ℕ). vars) target_vars parts
+
+-- ---- what statements name
+
+targets_layer : (s : Stmt) (x : Stmt-F Stmt Arm) → out-Stmt s ≡ x →
+    targets_of s ≡ targets_of_layer (map-Stmt Stmt Arm (List Target) (List Target) targets_of targets_of_arm x)
+targets_layer s x is =
+    fold_out-Stmt (List Target) (List Target) targets_of_layer arm_targets s
+    ∙ ap (λ y. targets_of_layer (map-Stmt Stmt Arm (List Target) (List Target) targets_of targets_of_arm y)) is
 
 flat_twice : {X Y Z : Type 0} (g : Y → List Z) (f : X → List Y) (xs : List X) → flat_map g (flat_map f xs) ≡ flat_map (λ x. flat_map g (f x)) xs
 flat_twice g f [] = refl
 flat_twice g f (x ∷ xs) = flat_map-append g (f x) (flat_map f xs) ∙ ap (λ zs. flat_map g (f x) ++ zs) (flat_twice g f xs)
 
-pub block_named : (parts : List Stmt) → named_by (targets_of (Block parts)) ≡ flat_map (λ s. named_by (targets_of s)) parts
-block_named parts = ap named_by (block_targets parts) ∙ flat_twice (λ t. var_list (target_var t)) targets_of parts
+block_targets : (parts : List Stmt) → targets_of (Block parts) ≡ flat_map targets_of parts
+block_targets parts = targets_layer (Block parts) (statement.Block parts) (outs-Block parts) ∙ flat_map-map (λ (ts : List Target). ts) targets_of parts
 
-pub assign_targets : (blocking : Bool) (target : Target) (value : Term) → targets_of (Assign blocking target value) ≡ target ∷ []
-assign_targets blocking target value =
-    fold_out-Stmt (List Target) targets_of_layer (Assign blocking target value)
-    ∙ ap (λ x. targets_of_layer (map-Stmt Stmt (List Target) targets_of x)) (outs-Assign blocking target value)
+pub block_named : (parts : List Stmt) → named_in (Block parts) ≡ flat_map named_in parts
+block_named parts = ap named_by (block_targets parts) ∙ flat_twice target_vars targets_of parts
+
+case_targets : (value : Term) (arms : List Arm) → targets_of (Case value arms) ≡ flat_map targets_of_arm arms
+case_targets value arms =
+    targets_layer (Case value arms) (statement.Case value arms) (outs-Case value arms) ∙ flat_map-map (λ (ts : List Target). ts) targets_of_arm arms
+
+pub case_named : (value : Term) (arms : List Arm) → named_in (Case value arms) ≡ flat_map named_in_arm arms
+case_named value arms =
+    ap named_by (case_targets value arms)
+    ∙ flat_twice target_vars targets_of_arm arms
+
+pub assign_named : (blocking : Bool) (to : Target) (value : Term) → named_in (Assign blocking to value) ≡ target_vars to
+assign_named blocking to value =
+    ap named_by (targets_layer (Assign blocking to value) (statement.Assign blocking to value) (outs-Assign blocking to value))
+    ∙ append-nil (target_vars to)
 
 -- ---- loops over a list
 
 pub split_items : {X : Type 0} (xs : List X) (i : ℕ) (a : X) → i < length xs → a ≡ get_or xs i a → drop i xs ≡ a ∷ drop (i + 1) xs
 split_items xs i a within is = rw (add-one, drop-cons xs i a within) (ap (λ x. x ∷ drop (suc i) xs) (sym is))
 
-mark_append : (xs ys : List ℕ) (marks : List Bool) → mark_all (xs ++ ys) marks ≡ mark_all ys (mark_all xs marks)
-mark_append [] ys marks = refl
-mark_append (x ∷ xs) ys marks = mark_append xs ys (slice_set marks x true)
+append_assoc : {X : Type 0} (xs ys zs : List X) → ((xs ++ ys) ++ zs) ≡ (xs ++ (ys ++ zs))
+append_assoc [] ys zs = refl
+append_assoc (x ∷ xs) ys zs = ap (λ rest. x ∷ rest) (append_assoc xs ys zs)
 
--- one item more is marked
-pub mark_more : {X : Type 0} (f : X → List ℕ) (xs : List X) (i : ℕ) (a : X) (marks after all : List Bool) → i < length xs → a ≡ get_or xs i a →
-    after ≡ mark_all (f a) marks → mark_all (flat_map f (drop i xs)) marks ≡ all → mark_all (flat_map f (drop (i + 1) xs)) after ≡ all
-mark_more f xs i a marks after all within is marked so_far =
-    ap (mark_all (flat_map f (drop (i + 1) xs))) marked
-    ∙ sym (mark_append (f a) (flat_map f (drop (i + 1) xs)) marks)
-    ∙ sym (ap (λ ys. mark_all (flat_map f ys) marks) (split_items xs i a within is))
+-- what one item more gives is added
+pub push_more : {X Y : Type 0} (f : X → List Y) (xs : List X) (i : ℕ) (a : X) (before after all : List Y) → i < length xs → a ≡ get_or xs i a →
+    after ≡ before ++ f a → before ++ flat_map f (drop i xs) ≡ all → after ++ flat_map f (drop (i + 1) xs) ≡ all
+push_more f xs i a before after all within is pushed so_far =
+    ap (λ ys. ys ++ flat_map f (drop (i + 1) xs)) pushed
+    ∙ append_assoc before (f a) (flat_map f (drop (i + 1) xs))
+    ∙ sym (ap (λ ys. before ++ flat_map f ys) (split_items xs i a within is))
     ∙ so_far
-
-pub mark_done : {X : Type 0} (f : X → List ℕ) (xs : List X) (i : ℕ) (marks all : List Bool) → length xs ≤ i → mark_all (flat_map f (drop i xs)) marks ≡ all →
-    marks ≡ all
-mark_done f xs i marks all past so_far = sym (ap (λ ys. mark_all (flat_map f ys) marks) (drop_all i xs past)) ∙ so_far
 
 -- one item more passes
 pub all_more : {X Y : Type 0} (p : Y → Bool) (f : X → List Y) (xs : List X) (i : ℕ) (a : X) (all : Bool) → i < length xs → a ≡ get_or xs i a →
@@ -92,10 +115,6 @@ all_fails p f xs i a all within is fail so_far =
     ∙ sym (list_all-append p (f a) (flat_map f (drop (i + 1) xs)))
     ∙ sym (ap (λ ys. list_all p (flat_map f ys)) (split_items xs i a within is))
     ∙ so_far
-
-pub all_done : {X Y : Type 0} (p : Y → Bool) (f : X → List Y) (xs : List X) (i : ℕ) (all : Bool) → length xs ≤ i → list_all p (flat_map f (drop i xs)) ≡ all →
-    true ≡ all
-all_done p f xs i all past so_far = sym (ap (λ ys. list_all p (flat_map f ys)) (drop_all i xs past)) ∙ so_far
 
 -- the same of the items themselves
 pub each_fails : {X : Type 0} (p : X → Bool) (xs : List X) (i : ℕ) (a : X) (all : Bool) → i < length xs → a ≡ get_or xs i a → p a ≡ false →
@@ -143,7 +162,9 @@ marked_at (y ∷ xs) marks x within =
       by_case : (y ≡ x) ⊎ (y ≡ x → ⊥) →
           (slice_index_or (slice_set marks y true) x false || stands_in x xs) ≡ (slice_index_or marks x false || ((y == x) || stands_in x xs))
       by_case (inl same) =
-          ap (λ t. t || stands_in x xs) (subst (λ z. slice_index_or (slice_set marks y true) z false ≡ true) same (get_or-set_same marks y true false (subst (λ z. z < length marks) (sym same) within)))
+          ap (λ t. t || stands_in x xs)
+          (subst (λ z. slice_index_or (slice_set marks y true) z false ≡ true) same
+          (get_or-set_same marks y true false (subst (λ z. z < length marks) (sym same) within)))
           ∙ sym (ap (λ t. slice_index_or marks x false || (t || stands_in x xs)) (same_test y x same) ∙ or_true (slice_index_or marks x false))
       by_case (inr other) =
           ap (λ t. t || stands_in x xs) (get_or-set_other marks y x true false (λ e. other (sym e)))

@@ -1,5 +1,5 @@
 -- What the evaluator's pass leaves.
-use Rattle.std.proofs.Common.{◌≡◌, ℕ, zero, suc, ◌<◌, ◌≤◌, ◌+◌, List, [], ◌∷◌, ◌++◌, length, map, take, drop, get_or, refl, sym, ◌∙◌, ap, subst, arith, None, Some}
+use Rattle.std.proofs.Common.{◌≡◌, ℕ, zero, suc, ◌<◌, ◌≤◌, ◌+◌, List, [], ◌∷◌, ◌++◌, length, map, take, drop, get_or, refl, sym, ◌∙◌, ap, subst, arith, Option, None, Some}
 use Rattle.std.specs.Prelude.{slice_index, slice_set}
 use Rattle.std.specs.List.{AllByRecursion}
 use Rattle.std.proofs.lemmas.List.{length-map, take_more, take_more_set}
@@ -9,15 +9,12 @@ use Rattle.net_ir.specs.declared.design.Role.{Role}
 use Rattle.net_ir.specs.declared.design.Role.TheVariants.{Input, Output, Inner}
 use Rattle.bit_ops.specs.declared.value.Bits.{Bits}
 use Rattle.net_ir.specs.declared.design.Var.{Var}
-use Rattle.net_ir.specs.declared.design.Target.{Target}
-use Rattle.net_ir.specs.declared.design.Target.TheVariants.{Of}
+use Rattle.net_ir.specs.declared.statement.Target.{Target}
 use Rattle.net_ir.specs.declared.design.Driver.{Driver}
 use Rattle.bit_ops.specs.Lists.{words, widths}
 use Rattle.net_ir.specs.Value.{widths_of, size}
-use Rattle.net_ir.specs.Drive.{target_var}
-use Rattle.net_ir.specs.Statement.{write_to}
-use Rattle.plain_run.specs.Plain.{IsWholeTo}
-use Rattle.plain_run.specs.code.Pass.{IsStorable, store, store_all, effect, run, source_at, source_of, sources_of}
+use Rattle.plain_run.specs.Plain.{whole_var, IsWholeAt, IsWholeTo}
+use Rattle.plain_run.specs.code.Pass.{IsStorableAt, IsStorable, store_at, store, effect, run, source_at, source_of, sources_of}
 
 -- ---- a store
 
@@ -33,35 +30,29 @@ set_same [] i n is = refl
 set_same (x ∷ xs) zero n is = ap (λ m. m ∷ xs) is
 set_same (x ∷ xs) (suc i) n is = ap (λ ys. x ∷ ys) (set_same xs i n is)
 
-pub store_at : (target : Target) (var word : ℕ) (u : List ℕ) → target_var target ≡ Some var → store target word u ≡ slice_set u var word
-store_at (Of None name place) var word u is = absurd (cc)
-store_at (Of (Some x) name place) var word u is = let same : x ≡ var = cc in ap (λ i. slice_set u i word) same
+pub stored_at : (target : Target) (var word : ℕ) (u : List ℕ) → whole_var target ≡ Some var → store target word u ≡ slice_set u var word
+stored_at target var word u is = ap (λ found. store_at found word u) is
 
-pub storable_at : (ws : List ℕ) (target : Target) (var width : ℕ) → target_var target ≡ Some var → IsStorable ws target width →
+pub storable_at : (ws : List ℕ) (target : Target) (var width : ℕ) → whole_var target ≡ Some var → IsStorable ws target width →
     (var < length ws) × (width ≡ slice_index ws var)
-storable_at ws (Of None name place) var width is storable = absurd (cc)
-storable_at ws (Of (Some x) name place) var width is storable =
-    let same : x ≡ var = cc in subst (λ i. (i < length ws) × (width ≡ slice_index ws i)) same storable
+storable_at ws target var width is storable = subst (λ found. IsStorableAt ws found width) is storable
 
-pub stored_widths : (values : List Bits) (target : Target) (var : ℕ) (b : Bits) → target_var target ≡ Some var → IsStorable (widths values) target b.width →
+pub stored_widths : (values : List Bits) (target : Target) (var : ℕ) (b : Bits) → whole_var target ≡ Some var → IsStorable (widths values) target b.width →
     widths (slice_set values var b) ≡ widths values
 stored_widths values target var b is storable =
     map-set (λ (x : Bits). x.width) values var b ∙ set_same (widths values) var b.width (storable_at (widths values) target var b.width is storable).1
 
-pub stored_words : (values : List Bits) (target : Target) (var : ℕ) (b : Bits) → target_var target ≡ Some var →
+pub stored_words : (values : List Bits) (target : Target) (var : ℕ) (b : Bits) → whole_var target ≡ Some var →
     words (slice_set values var b) ≡ store target b.word (words values)
 stored_words values target var b is =
-    map-set (λ (x : Bits). x.word) values var b ∙ sym (store_at target var b.word (words values) is)
+    map-set (λ (x : Bits). x.word) values var b ∙ sym (stored_at target var b.word (words values) is)
 
 -- a whole assignment stores a value of its target's width
 pub whole_storable : (ws : List ℕ) (target : Target) (value : Term) (width : ℕ) → IsWholeTo ws target value → width ≡ size ws value → IsStorable ws target width
-whole_storable ws (Of None name place) value width whole is = whole
-whole_storable ws (Of (Some var) name place) value width whole is = (whole.there, is ∙ whole.width)
-
--- what is stored is what an assignment to the target writes
-pub store_writes : (target : Target) (word : ℕ) (u : List ℕ) → store target word u ≡ store_all (write_to target word) u
-store_writes (Of None name place) word u = refl
-store_writes (Of (Some var) name place) word u = refl
+whole_storable ws target value width whole is = by_var (whole_var target) whole where
+  by_var : (found : Option ℕ) → IsWholeAt ws found value → IsStorableAt ws found width
+  by_var None none = none
+  by_var (Some var) at = (at.there, is ∙ at.width)
 
 -- ---- the loop over the drivers
 

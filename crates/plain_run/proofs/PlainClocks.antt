@@ -8,7 +8,8 @@ use Rattle.net_ir.specs.declared.design.Role.TheVariants.{Input, Output, Inner}
 use Rattle.net_ir.specs.declared.design.Var.{Var}
 use Rattle.net_ir.specs.declared.design.Trigger.{Trigger}
 use Rattle.net_ir.specs.declared.design.Driver.{Driver}
-use Rattle.net_ir.specs.declared.design.Driver.TheVariants.{Assign, Clocked}
+use Rattle.net_ir.specs.declared.design.Driver.TheVariants as driver
+use Rattle.net_ir.specs.declared.design.Driver.TheVariants.{Assign, Comb, Clocked}
 use Rattle.net_ir.specs.declared.design.Spec.{Spec}
 use Rattle.net_ir.specs.Face.{all_reads}
 use Rattle.plain_run.specs.Plain.{IsPlainClock, IsPlainTrigger, HasPlainClocks}
@@ -16,7 +17,7 @@ use Rattle.net_ir.specs.Marks.{AreMarksOf, is_clear}
 use Rattle.plain_run.specs.code.Marks.{is_input, is_clock_if, is_clock, are_clocks, has_clocks}
 use Rattle.plain_run.proofs.Marking.{same_test, same_from_test}
 use Rattle.plain_run.proofs.Turns.{and_true, and_front, and_back, not_true, true_not}
-use Rattle.plain_run.proofs.Unique.{width_is}
+use Rattle.plain_run.proofs.Names.{width_is}
 
 input_role : (r : Role) → is_input r ≡ true → r ≡ Input
 input_role Input is = refl
@@ -69,15 +70,20 @@ triggers_complete : (spec : Spec) (read : List Bool) (triggers : List Trigger) �
     AllByRecursion (λ (t : Trigger). IsPlainTrigger spec t.var) triggers → are_clocks spec.vars read triggers ≡ true
 triggers_complete spec read [] are plain = refl
 triggers_complete spec read (t ∷ triggers) are plain =
-    and_true (is_clock spec.vars read t.var) (are_clocks spec.vars read triggers) (trigger_complete spec read t.var are plain.0) (triggers_complete spec read triggers are plain.1)
+    and_true (is_clock spec.vars read t.var) (are_clocks spec.vars read triggers)
+    (trigger_complete spec read t.var are plain.0) (triggers_complete spec read triggers are plain.1)
 
 driver_sound : (spec : Spec) (read : List Bool) (d : Driver) → AreReadMarks spec read → has_clocks spec.vars read d ≡ true → HasPlainClocks spec d
 driver_sound spec read (Assign target value place) are passes = tt
+driver_sound spec read (Comb body place) are passes = tt
 driver_sound spec read (Clocked triggers body place) are passes = triggers_sound spec read triggers are passes
+driver_sound spec read (driver.Instance made) are passes = tt
 
 driver_complete : (spec : Spec) (read : List Bool) (d : Driver) → AreReadMarks spec read → HasPlainClocks spec d → has_clocks spec.vars read d ≡ true
 driver_complete spec read (Assign target value place) are plain = refl
+driver_complete spec read (Comb body place) are plain = refl
 driver_complete spec read (Clocked triggers body place) are plain = triggers_complete spec read triggers are plain
+driver_complete spec read (driver.Instance made) are plain = refl
 
 clocks_sound : (spec : Spec) (read : List Bool) (drivers : List Driver) → AreReadMarks spec read → list_all (has_clocks spec.vars read) drivers ≡ true →
     AllByRecursion (HasPlainClocks spec) drivers
@@ -91,7 +97,8 @@ clocks_complete : (spec : Spec) (read : List Bool) (drivers : List Driver) → A
     list_all (has_clocks spec.vars read) drivers ≡ true
 clocks_complete spec read [] are plain = refl
 clocks_complete spec read (d ∷ drivers) are plain =
-    and_true (has_clocks spec.vars read d) (list_all (has_clocks spec.vars read) drivers) (driver_complete spec read d are plain.0) (clocks_complete spec read drivers are plain.1)
+    and_true (has_clocks spec.vars read d) (list_all (has_clocks spec.vars read) drivers)
+    (driver_complete spec read d are plain.0) (clocks_complete spec read drivers are plain.1)
 
 -- what is found of the drivers decides
 pub clocks_decided : (spec : Spec) (read : List Bool) (passes : Bool) → AreReadMarks spec read → passes ≡ list_all (has_clocks spec.vars read) spec.drivers →

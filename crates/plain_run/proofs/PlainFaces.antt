@@ -14,9 +14,11 @@ use Rattle.net_ir.specs.declared.design.Var.{Var}
 use Rattle.net_ir.specs.declared.design.Spec.{Spec}
 use Rattle.net_ir.specs.declared.design.Trigger.{Trigger}
 use Rattle.net_ir.specs.declared.design.Driver.{Driver}
-use Rattle.net_ir.specs.declared.design.Driver.TheVariants.{Assign, Clocked}
+use Rattle.net_ir.specs.declared.design.Driver.TheVariants as driver
+use Rattle.net_ir.specs.declared.design.Driver.TheVariants.{Assign, Comb, Clocked}
 use Rattle.net_ir.specs.Value.{widths_of}
-use Rattle.net_ir.specs.Drive.{driver_clocks, var_list}
+use Rattle.net_ir.specs.Drive.{driver_clocks}
+use Rattle.net_ir.specs.Target.{var_list}
 use Rattle.net_ir.specs.Face.{class_of, input_class, stands_in, clocks_of, all_reads, ports_of}
 use Rattle.plain_run.specs.Plain.{IsPlain, IsPlainClock, IsPlainTrigger, HasPlainClocks, HaveInitialValues}
 use Rattle.plain_run.proofs.Ports.{port_is}
@@ -65,6 +67,8 @@ trigger_clock spec x (t ∷ triggers) plain is =
 
 driver_clock : (spec : Spec) (x : ℕ) (d : Driver) → HasPlainClocks spec d → stands_in x (driver_clocks d) ≡ true → IsPlainClock spec x
 driver_clock spec x (Assign target value place) plain is = absurd (false≢true is)
+driver_clock spec x (Comb body place) plain is = absurd (false≢true is)
+driver_clock spec x (driver.Instance made) plain is = absurd (false≢true is)
 driver_clock spec x (Clocked triggers body place) plain is = trigger_clock spec x triggers plain is
 
 -- what stands in an event control of a plain design is a clock

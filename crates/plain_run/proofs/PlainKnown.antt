@@ -1,6 +1,6 @@
 -- That a design is plain may be kept as a fact that has one proof at most, from which a proof comes back.
 use Rattle.std.proofs.Common.{◌≡◌, ℕ, List, [], ◌∷◌, map, Bool, false, refl, sym, ap, subst, Option, Some, None}
-use Rattle.std.specs.Prelude.{slice_get}
+use Rattle.std.specs.Prelude.{⊤, slice_get}
 use Rattle.std.specs.List.{AllByRecursion}
 use Rattle.std.specs.Coded.{×_prop, Unit-prop}
 use Rattle.std.proofs.Math.Logic.{∥∥₁_elim}
@@ -18,27 +18,27 @@ use Rattle.net_ir.specs.declared.term.Term.TheOpen.{Term-F}
 use Rattle.net_ir.specs.declared.term.Term.TheViews.{roll-Term}
 use Rattle.net_ir.specs.declared.term.Term.TheVariants.{rolls-Const, rolls-Read, rolls-Pick, rolls-Apply, outs-Read, outs-Apply}
 use Rattle.net_ir.specs.declared.term.Term.TheFolds.{map-Term, ind-Term, every_here-Term, every_held-Term, every_made-Term}
+use Rattle.net_ir.specs.declared.statement.Target.{Target}
+use Rattle.net_ir.specs.declared.statement.Arm.{Arm}
 use Rattle.net_ir.specs.declared.statement.Stmt.{Stmt, Block, Assign}
 use Rattle.net_ir.specs.declared.statement.Stmt.TheOpen as stmt
 use Rattle.net_ir.specs.declared.statement.Stmt.TheOpen.{Stmt-F}
-use Rattle.net_ir.specs.declared.statement.Stmt.TheViews.{roll-Stmt}
-use Rattle.net_ir.specs.declared.statement.Stmt.TheVariants.{rolls-Block, outs-Block, rolls-Assign, outs-Assign}
-use Rattle.net_ir.specs.declared.statement.Stmt.TheFolds.{map-Stmt, ind-Stmt, every-Stmt, every_here-Stmt, every_held-Stmt, every_made-Stmt}
+use Rattle.net_ir.specs.declared.statement.Stmt.TheViews.{roll-Stmt, out-roll-Stmt}
+use Rattle.net_ir.specs.declared.statement.Stmt.TheVariants.{rolls-Block, rolls-Assign, outs-Assign}
+use Rattle.net_ir.specs.declared.statement.Stmt.TheFolds.{map-Stmt, ind-Stmt, every_made-Stmt}
 use Rattle.net_ir.specs.declared.design.Role.{Role}
 use Rattle.net_ir.specs.declared.design.Role.TheVariants.{Input, Output, Inner}
 use Rattle.net_ir.specs.declared.design.Var.{Var}
-use Rattle.net_ir.specs.declared.design.Target.{Target}
-use Rattle.net_ir.specs.declared.design.Target.TheVariants.{Of}
 use Rattle.net_ir.specs.declared.design.Trigger.{Trigger}
 use Rattle.net_ir.specs.declared.design.Driver.{Driver}
 use Rattle.net_ir.specs.declared.design.Driver.TheVariants as driver
 use Rattle.net_ir.specs.declared.design.Spec.{Spec}
 use Rattle.net_ir.specs.Value.{widths_of, size}
 use Rattle.net_ir.specs.Statement.{targets_of}
-use Rattle.net_ir.specs.Drive.{target_var}
 use Rattle.net_ir.specs.Lawful.{IsLawfulLayer, IsLawful}
+use Rattle.plain_run.specs.Plain.{whole_var, IsWholeAt, IsWholeTo, IsPlainLayer, IsPlainStmt, IsWhole, AreOrdered, IsPlainTrigger, HasPlainClocks, named_by, IsNoNet, WritesNoNet, IsPlain}
 use Rattle.plain_run.proofs.Layers.{lawful_pick, pick_width}
-use Rattle.plain_run.specs.Plain.{IsWholeTo, IsWholeLayer, IsWhole, AreOrdered, IsPlainTrigger, HasPlainClocks, NamesNoNet, WritesNoNet, IsPlain}
+use Rattle.plain_run.proofs.Names.{block_parts, layer_is}
 
 -- a proof comes back from the fact that there is one
 abbrev Known : Type 0 → Type 0
@@ -168,65 +168,70 @@ lawful_known ws = ind-Term (λ t. Known (IsLawful ws t)) (λ x y is. subst (λ z
 
 -- ---- drivers
 
-whole_to_known : (ws : List ℕ) (target : Target) (value : Term) → Known (IsWholeTo ws target value)
-whole_to_known ws (Of (Some var) name place) value h = record {
+whole_at_known : (ws : List ℕ) (var : Option ℕ) (value : Term) → Known (IsWholeAt ws var value)
+whole_at_known ws (Some var) value h = record {
   there = ∥∥₁_elim h (hlevel props) (λ whole. whole.there);
   width = ∥∥₁_elim h (hlevel props) (λ whole. whole.width);
   lawful = lawful_known ws value (∥∥₁_map h (λ whole. whole.lawful));
 }
-whole_to_known ws (Of None name place) value h = ∥∥₁_elim h ⊥_prop (λ none. none)
+whole_at_known ws None value h = ∥∥₁_elim h ⊥_prop (λ none. none)
 
-parts_held : (ws : List ℕ) (parts : List Stmt) (y : Stmt-F ((s : Stmt) × every-Stmt (IsWholeLayer ws) s)) →
-    map-Stmt ((s : Stmt) × every-Stmt (IsWholeLayer ws) s) Stmt (λ e. e.0) y ≡ stmt.Block parts → AllByRecursion (every-Stmt (IsWholeLayer ws)) parts
-parts_held ws parts (stmt.Block held) is = subst (AllByRecursion (every-Stmt (IsWholeLayer ws)))
-    (let same : stmt.Block (map (λ (e : (s : Stmt) × every-Stmt (IsWholeLayer ws) s). e.0) held) ≡ stmt.Block parts = is in cc)
-    (all_of (every-Stmt (IsWholeLayer ws)) held)
-parts_held ws parts (stmt.Assign blocking target value) is = absurd (cc)
+whole_to_known : (ws : List ℕ) (to : Target) (value : Term) → Known (IsWholeTo ws to value)
+whole_to_known ws to value = whole_at_known ws (whole_var to) value
 
-whole_parts : (ws : List ℕ) (parts : List Stmt) → every-Stmt (IsWholeLayer ws) (Block parts) → AllByRecursion (every-Stmt (IsWholeLayer ws)) parts
-whole_parts ws parts whole =
-    let all = every_held-Stmt (IsWholeLayer ws) (Block parts) whole in
-    parts_held ws parts all.0 (subst (λ z. map-Stmt ((s : Stmt) × every-Stmt (IsWholeLayer ws) s) Stmt (λ e. e.0) all.0 ≡ z) (outs-Block parts) all.1)
+block_known : (vars : List Var) (parts : List Stmt) → AllByRecursion (λ s. Known (IsPlainStmt vars s)) parts → Known (IsPlainStmt vars (Block parts))
+block_known vars parts known h =
+    let held = held_of (IsPlainStmt vars) parts (all_known (IsPlainStmt vars) parts known (∥∥₁_map h (λ plain. block_parts vars parts plain))) in
+    subst (IsPlainStmt vars) (rolls-Block parts)
+    (every_made-Stmt (IsPlainLayer vars) (λ arm. ⊤) (stmt.Block parts) (stmt.Block held.0) (ap (λ ss. stmt.Block ss) held.1) tt)
 
-whole_assign : (ws : List ℕ) (blocking : Bool) (target : Target) (value : Term) → every-Stmt (IsWholeLayer ws) (Assign blocking target value) →
-    (blocking ≡ false) × IsWholeTo ws target value
-whole_assign ws blocking target value whole = subst (IsWholeLayer ws) (outs-Assign blocking target value)
-    (every_here-Stmt (IsWholeLayer ws) (Assign blocking target value) whole)
+assign_layer : (vars : List Var) (blocking : Bool) (to : Target) (value : Term) → IsPlainStmt vars (Assign blocking to value) →
+    (blocking ≡ false) × IsWholeTo (widths_of vars) to value
+assign_layer vars blocking to value plain =
+    layer_is vars (Assign blocking to value) (stmt.Assign blocking to value) (outs-Assign blocking to value) plain
 
-block_known : (ws : List ℕ) (parts : List Stmt) → AllByRecursion (λ s. Known (every-Stmt (IsWholeLayer ws) s)) parts →
-    Known (every-Stmt (IsWholeLayer ws) (Block parts))
-block_known ws parts known h =
-    let held = held_of (every-Stmt (IsWholeLayer ws)) parts
-    (all_known (every-Stmt (IsWholeLayer ws)) parts known (∥∥₁_map h (λ whole. whole_parts ws parts whole))) in
-    subst (every-Stmt (IsWholeLayer ws)) (rolls-Block parts)
-    (every_made-Stmt (IsWholeLayer ws) (stmt.Block parts) (stmt.Block held.0) (ap (λ ss. stmt.Block ss) held.1) tt)
+assign_known : (vars : List Var) (blocking : Bool) (to : Target) (value : Term) → Known (IsPlainStmt vars (Assign blocking to value))
+assign_known vars blocking to value h =
+    let later = ∥∥₁_elim h (hlevel props) (λ plain. (assign_layer vars blocking to value plain).0) in
+    let whole = whole_to_known (widths_of vars) to value (∥∥₁_map h (λ plain. (assign_layer vars blocking to value plain).1)) in
+    subst (IsPlainStmt vars) (rolls-Assign blocking to value)
+    (every_made-Stmt (IsPlainLayer vars) (λ arm. ⊤) (stmt.Assign blocking to value) (stmt.Assign blocking to value) refl (later, whole))
 
-assign_known : (ws : List ℕ) (blocking : Bool) (target : Target) (value : Term) → Known (every-Stmt (IsWholeLayer ws) (Assign blocking target value))
-assign_known ws blocking target value h =
-    let plain = ∥∥₁_elim h (hlevel props) (λ whole. (whole_assign ws blocking target value whole).0) in
-    let to = whole_to_known ws target value (∥∥₁_map h (λ whole. (whole_assign ws blocking target value whole).1)) in
-    subst (every-Stmt (IsWholeLayer ws)) (rolls-Assign blocking target value)
-    (every_made-Stmt (IsWholeLayer ws) (stmt.Assign blocking target value) (stmt.Assign blocking target value) refl (plain, to))
+abbrev KnownStmt : List Var → Type 0
+KnownStmt vars = (s : Stmt) × Known (IsPlainStmt vars s)
 
-statement_layer_known : (ws : List ℕ) (y : Stmt-F ((s : Stmt) × Known (every-Stmt (IsWholeLayer ws) s))) →
-    Known (every-Stmt (IsWholeLayer ws) (roll-Stmt (map-Stmt ((s : Stmt) × Known (every-Stmt (IsWholeLayer ws) s)) Stmt (λ e. e.0) y)))
-statement_layer_known ws (stmt.Block held) =
-    subst (λ s. Known (every-Stmt (IsWholeLayer ws) s)) (sym (rolls-Block (map (λ e. e.0) held)))
-    (block_known ws (map (λ e. e.0) held) (all_of (λ s. Known (every-Stmt (IsWholeLayer ws) s)) held))
-statement_layer_known ws (stmt.Assign blocking target value) =
-    subst (λ s. Known (every-Stmt (IsWholeLayer ws) s)) (sym (rolls-Assign blocking target value)) (assign_known ws blocking target value)
+abbrev SomeArm : Type 0
+SomeArm = (a : Arm) × ⊤
 
-statement_known : (ws : List ℕ) (s : Stmt) → Known (every-Stmt (IsWholeLayer ws) s)
-statement_known ws = ind-Stmt (λ s. Known (every-Stmt (IsWholeLayer ws) s))
-    (λ x y is. subst (λ z. Known (every-Stmt (IsWholeLayer ws) (roll-Stmt z))) is (statement_layer_known ws y))
+abbrev stripped : (vars : List Var) → Stmt-F (KnownStmt vars) SomeArm → Stmt-F Stmt Arm
+stripped vars = map-Stmt (KnownStmt vars) SomeArm Stmt Arm (λ e. e.0) (λ e. e.0)
 
-whole_known : (ws : List ℕ) (d : Driver) → Known (IsWhole ws d)
-whole_known ws (driver.Assign target value place) h = whole_to_known ws target value h
-whole_known ws (driver.Clocked triggers body place) h = statement_known ws body h
+statement_layer_known : (vars : List Var) (y : Stmt-F (KnownStmt vars) SomeArm) → Known (IsPlainStmt vars (roll-Stmt (stripped vars y)))
+statement_layer_known vars (stmt.Block held) =
+    subst (λ s. Known (IsPlainStmt vars s)) (sym (rolls-Block (map (λ e. e.0) held)))
+    (block_known vars (map (λ e. e.0) held) (all_of (λ s. Known (IsPlainStmt vars s)) held))
+statement_layer_known vars (stmt.If test first second) =
+    let x = stripped vars (stmt.If test first second) in
+    λ h. absurd (∥∥₁_elim h ⊥_prop (λ plain. layer_is vars (roll-Stmt x) x (out-roll-Stmt x) plain))
+statement_layer_known vars (stmt.Case value arms) =
+    let x = stripped vars (stmt.Case value arms) in
+    λ h. absurd (∥∥₁_elim h ⊥_prop (λ plain. layer_is vars (roll-Stmt x) x (out-roll-Stmt x) plain))
+statement_layer_known vars (stmt.Assign blocking to value) =
+    subst (λ s. Known (IsPlainStmt vars s)) (sym (rolls-Assign blocking to value)) (assign_known vars blocking to value)
 
-ordered-prop : (ws : List ℕ) (drivers : List Driver) → IsProp (AreOrdered ws drivers)
-ordered-prop ws [] = Unit-prop
-ordered-prop ws (d ∷ later) = ×_prop (hlevel props) (ordered-prop ws later)
+statement_known : (vars : List Var) (s : Stmt) → Known (IsPlainStmt vars s)
+statement_known vars = ind-Stmt (λ s. Known (IsPlainStmt vars s)) (λ arm. ⊤)
+    (λ x y is. subst (λ z. Known (IsPlainStmt vars (roll-Stmt z))) is (statement_layer_known vars y)) (λ x y is. tt)
+
+whole_known : (vars : List Var) (d : Driver) → Known (IsWhole vars d)
+whole_known vars (driver.Assign to value place) h = whole_to_known (widths_of vars) to value h
+whole_known vars (driver.Comb body place) h = ∥∥₁_elim h ⊥_prop (λ none. none)
+whole_known vars (driver.Clocked triggers body place) h = statement_known vars body h
+whole_known vars (driver.Instance made) h = ∥∥₁_elim h ⊥_prop (λ none. none)
+
+ordered-prop : (drivers : List Driver) → IsProp (AreOrdered drivers)
+ordered-prop [] = Unit-prop
+ordered-prop (d ∷ later) = ×_prop (hlevel props) (ordered-prop later)
 
 -- ---- clocks
 
@@ -253,26 +258,28 @@ trigger_known spec (Some clock) h = record {
 }
 
 clocks_known : (spec : Spec) (d : Driver) → Known (HasPlainClocks spec d)
-clocks_known spec (driver.Assign target value place) h = tt
+clocks_known spec (driver.Assign to value place) h = tt
+clocks_known spec (driver.Comb body place) h = tt
 clocks_known spec (driver.Clocked triggers body place) h = each_known (λ (t : Trigger). IsPlainTrigger spec t.var) (λ t. trigger_known spec t.var) triggers h
+clocks_known spec (driver.Instance made) h = tt
 
 -- ---- nets
 
-name_known : (vars : List Var) (name : Option ℕ) → Known (NamesNoNet vars name)
-name_known vars None h = tt
-name_known vars (Some x) h = λ v is. ∥∥₁_elim h (hlevel props) (λ names. names v is)
+name_known : (vars : List Var) (x : ℕ) → Known (IsNoNet vars x)
+name_known vars x h = λ v is. ∥∥₁_elim h (hlevel props) (λ names. names v is)
 
 nets_known : (vars : List Var) (d : Driver) → Known (WritesNoNet vars d)
-nets_known vars (driver.Assign target value place) h = tt
-nets_known vars (driver.Clocked triggers body place) h = each_known (λ (t : Target). NamesNoNet vars (target_var t))
-    (λ t. name_known vars (target_var t)) (targets_of body) h
+nets_known vars (driver.Assign to value place) h = tt
+nets_known vars (driver.Comb body place) h = each_known (IsNoNet vars) (name_known vars) (named_by (targets_of body)) h
+nets_known vars (driver.Clocked triggers body place) h = each_known (IsNoNet vars) (name_known vars) (named_by (targets_of body)) h
+nets_known vars (driver.Instance made) h = tt
 
 pub plain_known : (spec : Spec) → ∥ IsPlain spec ∥₁ → IsPlain spec
 plain_known spec h = record {
   vars = ∥∥₁_elim h (hlevel props) (λ plain. plain.vars);
-  whole = each_known (IsWhole (widths_of spec.vars)) (whole_known (widths_of spec.vars)) spec.drivers (∥∥₁_map h (λ plain. plain.whole));
+  whole = each_known (IsWhole spec.vars) (whole_known spec.vars) spec.drivers (∥∥₁_map h (λ plain. plain.whole));
   inner = ∥∥₁_elim h (hlevel props) (λ plain. plain.inner);
-  ordered = ∥∥₁_elim h (ordered-prop (widths_of spec.vars) spec.drivers) (λ plain. plain.ordered);
+  ordered = ∥∥₁_elim h (ordered-prop spec.drivers) (λ plain. plain.ordered);
   clocks = each_known (HasPlainClocks spec) (clocks_known spec) spec.drivers (∥∥₁_map h (λ plain. plain.clocks));
   ports = λ x v at outer. ∥∥₁_elim h (hlevel props) (λ plain. plain.ports x v at outer);
   nets = each_known (WritesNoNet spec.vars) (nets_known spec.vars) spec.drivers (∥∥₁_map h (λ plain. plain.nets));

@@ -1,47 +1,47 @@
--- Clocked processes that write variables alone.
+-- Processes that write variables alone.
 use Rattle.std.proofs.Common.{◌≡◌, ℕ, List, [], ◌∷◌, Bool, true, refl, sym, ◌∙◌, ap, Option, None, Some}
 use Rattle.std.specs.Prelude.{not, slice_get, IsTrue, ◌↔◌}
 use Rattle.std.specs.List.{AllByRecursion, list_all}
 use Rattle.net_ir.specs.declared.design.Var.{Var}
-use Rattle.net_ir.specs.declared.design.Target.{Target}
 use Rattle.net_ir.specs.declared.design.Driver.{Driver}
-use Rattle.net_ir.specs.declared.design.Driver.TheVariants.{Assign, Clocked}
-use Rattle.net_ir.specs.Statement.{targets_of}
-use Rattle.net_ir.specs.Drive.{target_var}
-use Rattle.plain_run.specs.Plain.{NamesNoNet, WritesNoNet}
-use Rattle.plain_run.specs.code.Turns.{net_if, names_no_net, name_no_nets, writes_no_net}
+use Rattle.net_ir.specs.declared.design.Driver.TheVariants as driver
+use Rattle.net_ir.specs.declared.design.Driver.TheVariants.{Assign, Comb, Clocked}
+use Rattle.plain_run.specs.Plain.{IsNoNet, WritesNoNet}
+use Rattle.plain_run.specs.code.Marks.{named_in}
+use Rattle.plain_run.specs.code.Turns.{net_if, is_no_net, are_no_nets, writes_no_net}
 use Rattle.plain_run.proofs.Turns.{and_true, and_front, and_back, not_true, true_not}
 
-name_sound : (vars : List Var) (name : Option ℕ) → names_no_net vars name ≡ true → NamesNoNet vars name
-name_sound vars None passes = tt
-name_sound vars (Some x) passes = λ v is. sym (ap net_if is) ∙ not_true (net_if (slice_get vars x)) passes
+name_sound : (vars : List Var) (x : ℕ) → is_no_net vars x ≡ true → IsNoNet vars x
+name_sound vars x passes = λ v is. sym (ap net_if is) ∙ not_true (net_if (slice_get vars x)) passes
 
-name_complete : (vars : List Var) (name : Option ℕ) → NamesNoNet vars name → names_no_net vars name ≡ true
-name_complete vars None names = refl
-name_complete vars (Some x) names = found (slice_get vars x) refl where
+name_complete : (vars : List Var) (x : ℕ) → IsNoNet vars x → is_no_net vars x ≡ true
+name_complete vars x names = found (slice_get vars x) refl where
   found : (at : Option Var) → slice_get vars x ≡ at → not (net_if (slice_get vars x)) ≡ true
   found None is = true_not (net_if (slice_get vars x)) (ap net_if is)
   found (Some v) is = true_not (net_if (slice_get vars x)) (ap net_if is ∙ names v is)
 
-targets_sound : (vars : List Var) (ts : List Target) → name_no_nets vars ts ≡ true → AllByRecursion (λ (t : Target). NamesNoNet vars (target_var t)) ts
-targets_sound vars [] passes = tt
-targets_sound vars (t ∷ ts) passes = (
-  name_sound vars (target_var t) (and_front (names_no_net vars (target_var t)) (name_no_nets vars ts) passes),
-  targets_sound vars ts (and_back (names_no_net vars (target_var t)) (name_no_nets vars ts) passes),
+names_sound : (vars : List Var) (xs : List ℕ) → are_no_nets vars xs ≡ true → AllByRecursion (IsNoNet vars) xs
+names_sound vars [] passes = tt
+names_sound vars (x ∷ xs) passes = (
+  name_sound vars x (and_front (is_no_net vars x) (are_no_nets vars xs) passes),
+  names_sound vars xs (and_back (is_no_net vars x) (are_no_nets vars xs) passes),
 )
 
-targets_complete : (vars : List Var) (ts : List Target) → AllByRecursion (λ (t : Target). NamesNoNet vars (target_var t)) ts → name_no_nets vars ts ≡ true
-targets_complete vars [] names = refl
-targets_complete vars (t ∷ ts) names =
-    and_true (names_no_net vars (target_var t)) (name_no_nets vars ts) (name_complete vars (target_var t) names.0) (targets_complete vars ts names.1)
+names_complete : (vars : List Var) (xs : List ℕ) → AllByRecursion (IsNoNet vars) xs → are_no_nets vars xs ≡ true
+names_complete vars [] names = refl
+names_complete vars (x ∷ xs) names = and_true (is_no_net vars x) (are_no_nets vars xs) (name_complete vars x names.0) (names_complete vars xs names.1)
 
 driver_sound : (vars : List Var) (d : Driver) → writes_no_net vars d ≡ true → WritesNoNet vars d
-driver_sound vars (Assign target value place) passes = tt
-driver_sound vars (Clocked triggers body place) passes = targets_sound vars (targets_of body) passes
+driver_sound vars (Assign to value place) passes = tt
+driver_sound vars (Comb body place) passes = names_sound vars (named_in body) passes
+driver_sound vars (Clocked triggers body place) passes = names_sound vars (named_in body) passes
+driver_sound vars (driver.Instance made) passes = tt
 
 driver_complete : (vars : List Var) (d : Driver) → WritesNoNet vars d → writes_no_net vars d ≡ true
-driver_complete vars (Assign target value place) writes = refl
-driver_complete vars (Clocked triggers body place) writes = targets_complete vars (targets_of body) writes
+driver_complete vars (Assign to value place) writes = refl
+driver_complete vars (Comb body place) writes = names_complete vars (named_in body) writes
+driver_complete vars (Clocked triggers body place) writes = names_complete vars (named_in body) writes
+driver_complete vars (driver.Instance made) writes = refl
 
 nets_sound : (vars : List Var) (drivers : List Driver) → list_all (writes_no_net vars) drivers ≡ true → AllByRecursion (WritesNoNet vars) drivers
 nets_sound vars [] passes = tt

@@ -11,12 +11,11 @@ use Rattle.std.proofs.lemmas.Option.{slice_get_within, get_or_from_slice_get}
 use Rattle.net_ir.specs.declared.design.Var.{Var}
 use Rattle.net_ir.specs.declared.design.Driver.{Driver}
 use Rattle.net_ir.specs.declared.design.Spec.{Spec}
-use Rattle.net_ir.specs.Value.{widths_of}
 use Rattle.net_ir.specs.Drive.{holds, NoneHolds}
 use Rattle.net_ir.specs.Register.{Register, holder_from, onto_run, with_bit, runs_from, registers_from, registers_of, part_of, register_words}
 use Rattle.net_ir.specs.Solution.{IsHeld}
 use Rattle.plain_run.proofs.Elements.{all_from, all_join, all_get}
-use Rattle.plain_run.proofs.Order.{front_of_and, back_of_and, test_eq, same_or_not}
+use Rattle.plain_run.proofs.Numbers.{front_of_and, back_of_and, test_eq, same_or_not}
 
 -- ---- the bits of a word from a place on
 
@@ -224,20 +223,20 @@ registers_whole holder n (w ∷ vars) (suc i) x k d v number at within is =
 -- ---- the drivers that hold bits
 
 -- what follows where one of the drivers holds a bit
-pub holder_holds : (ws : List ℕ) (m : ℕ) (drivers : List Driver) (x k d : ℕ) (P : Type 0) → AllByRecursion (λ e. holds ws e x k ≡ true → P) drivers →
-    holder_from m ws drivers x k ≡ Some d → P
-holder_holds ws m [] x k d P all is = absurd (let clash : None ≡ Some d = is in cc)
-holder_holds ws m (e ∷ drivers) x k d P all is = by_test (holds ws e x k) refl is (holder_holds ws (m + 1) drivers x k d P all.1) where
-  by_test : (t : Bool) → holds ws e x k ≡ t → (if t then Some m else holder_from (m + 1) ws drivers x k) ≡ Some d →
-      (holder_from (m + 1) ws drivers x k ≡ Some d → P) → P
+pub holder_holds : (vars : List Var) (m : ℕ) (drivers : List Driver) (x k d : ℕ) (P : Type 0) → AllByRecursion (λ e. holds vars e x k ≡ true → P) drivers →
+    holder_from m vars drivers x k ≡ Some d → P
+holder_holds vars m [] x k d P all is = absurd (let clash : None ≡ Some d = is in cc)
+holder_holds vars m (e ∷ drivers) x k d P all is = by_test (holds vars e x k) refl is (holder_holds vars (m + 1) drivers x k d P all.1) where
+  by_test : (t : Bool) → holds vars e x k ≡ t → (if t then Some m else holder_from (m + 1) vars drivers x k) ≡ Some d →
+      (holder_from (m + 1) vars drivers x k ≡ Some d → P) → P
   by_test true held at rest = all.0 held
   by_test false clear at rest = rest at
 
-pub holder_none : (ws : List ℕ) (m : ℕ) (drivers : List Driver) (x k : ℕ) → holder_from m ws drivers x k ≡ None → NoneHolds ws drivers x k
-holder_none ws m [] x k is = tt
-holder_none ws m (e ∷ drivers) x k is = by_test (holds ws e x k) refl is (holder_none ws (m + 1) drivers x k) where
-  by_test : (t : Bool) → holds ws e x k ≡ t → (if t then Some m else holder_from (m + 1) ws drivers x k) ≡ None →
-      (holder_from (m + 1) ws drivers x k ≡ None → NoneHolds ws drivers x k) → (holds ws e x k ≡ false) × NoneHolds ws drivers x k
+pub holder_none : (vars : List Var) (m : ℕ) (drivers : List Driver) (x k : ℕ) → holder_from m vars drivers x k ≡ None → NoneHolds vars drivers x k
+holder_none vars m [] x k is = tt
+holder_none vars m (e ∷ drivers) x k is = by_test (holds vars e x k) refl is (holder_none vars (m + 1) drivers x k) where
+  by_test : (t : Bool) → holds vars e x k ≡ t → (if t then Some m else holder_from (m + 1) vars drivers x k) ≡ None →
+      (holder_from (m + 1) vars drivers x k ≡ None → NoneHolds vars drivers x k) → (holds vars e x k ≡ false) × NoneHolds vars drivers x k
   by_test true held at rest = absurd (let clash : Some m ≡ None = at in cc)
   by_test false clear at rest = (clear, rest at)
 
@@ -245,7 +244,7 @@ holder_none ws m (e ∷ drivers) x k is = by_test (holds ws e x k) refl is (hold
 
 -- the driver that has a bit in a register
 abbrev pub holder_of : Spec → ℕ → ℕ → Option ℕ
-holder_of spec = holder_from 0 (widths_of spec.vars) spec.drivers
+holder_of spec = holder_from 0 spec.vars spec.drivers
 
 pub register_at : (spec : Spec) (i : ℕ) (r : Register) → slice_get (registers_of spec) i ≡ Some r → IsRegister (holder_of spec) 0 spec.vars r
 register_at spec i r at = all_get (IsRegister (holder_of spec) 0 spec.vars) (registers_of spec) i r (registers_sound (holder_of spec) 0 spec.vars) at
@@ -270,24 +269,24 @@ register_bit spec i r k at below =
 
 -- a bit is a register's, or no driver holds it
 pub register_or_none : (spec : Spec) (x k : ℕ) (v : Var) → slice_get spec.vars x ≡ Some v → k < v.width →
-    HasBit (registers_of spec) x k ⊎ NoneHolds (widths_of spec.vars) spec.drivers x k
+    HasBit (registers_of spec) x k ⊎ NoneHolds spec.vars spec.drivers x k
 register_or_none spec x k v at within = by_case (holder_of spec x k) refl where
-  by_case : (found : Option ℕ) → holder_of spec x k ≡ found → HasBit (registers_of spec) x k ⊎ NoneHolds (widths_of spec.vars) spec.drivers x k
+  by_case : (found : Option ℕ) → holder_of spec x k ≡ found → HasBit (registers_of spec) x k ⊎ NoneHolds spec.vars spec.drivers x k
   by_case (Some d) is = inl (registers_whole (holder_of spec) 0 spec.vars x x k d v (omega arith) at within is)
-  by_case None is = inr (holder_none (widths_of spec.vars) 0 spec.drivers x k is)
+  by_case None is = inr (holder_none spec.vars 0 spec.drivers x k is)
 
 -- the bits of a driver's registers stand in the valuation as they are held, where each variable has a word
-abbrev pub IsHeldBy : List ℕ → List ℕ → List ℕ → Driver → Type 0
-IsHeldBy ws held u d = (x k : ℕ) → holds ws d x k ≡ true → bit_at (slice_index u x) k ≡ bit_at (slice_index held x) k
+abbrev pub IsHeldBy : List Var → List ℕ → List ℕ → Driver → Type 0
+IsHeldBy vars held u d = (x k : ℕ) → holds vars d x k ≡ true → bit_at (slice_index u x) k ≡ bit_at (slice_index held x) k
 
 -- so those of each register
-pub held_bit : (spec : Spec) (held u : List ℕ) (i : ℕ) (r : Register) (k : ℕ) → AllByRecursion (IsHeldBy (widths_of spec.vars) held u) spec.drivers →
+pub held_bit : (spec : Spec) (held u : List ℕ) (i : ℕ) (r : Register) (k : ℕ) → AllByRecursion (IsHeldBy spec.vars held u) spec.drivers →
     slice_get (registers_of spec) i ≡ Some r → k < r.width → bit_at (slice_index u r.var) (r.low + k) ≡ bit_at (slice_index held r.var) (r.low + k)
 held_bit spec held u i r k each at below =
-    let ws = widths_of spec.vars in
+    let vars = spec.vars in
     let bit = register_bit spec i r k at below in
-    holder_holds ws 0 spec.drivers r.var (r.low + k) r.driver (bit_at (slice_index u r.var) (r.low + k) ≡ bit_at (slice_index held r.var) (r.low + k))
-    (all_from (IsHeldBy ws held u) (λ e. holds ws e r.var (r.low + k) ≡ true → bit_at (slice_index u r.var) (r.low + k) ≡ bit_at (slice_index held r.var) (r.low + k))
+    holder_holds vars 0 spec.drivers r.var (r.low + k) r.driver (bit_at (slice_index u r.var) (r.low + k) ≡ bit_at (slice_index held r.var) (r.low + k))
+    (all_from (IsHeldBy vars held u) (λ e. holds vars e r.var (r.low + k) ≡ true → bit_at (slice_index u r.var) (r.low + k) ≡ bit_at (slice_index held r.var) (r.low + k))
     (λ d is holding. is r.var (r.low + k) holding) spec.drivers each) bit.held
 
 -- the bits of a register's word are those of its variable
@@ -296,6 +295,6 @@ pub word_bit : (spec : Spec) (held : List ℕ) (i : ℕ) (r : Register) (k : ℕ
 word_bit spec held i r k at below =
     ap (λ n. bit_at n k) (register_word (registers_of spec) held i r at) ∙ part_bit (slice_index held r.var) r.low r.width k below
 
-pub held_registers : (spec : Spec) (held u : List ℕ) → AllByRecursion (IsHeldBy (widths_of spec.vars) held u) spec.drivers → (i : ℕ) (r : Register) →
+pub held_registers : (spec : Spec) (held u : List ℕ) → AllByRecursion (IsHeldBy spec.vars held u) spec.drivers → (i : ℕ) (r : Register) →
     slice_get (registers_of spec) i ≡ Some r → IsHeld (register_words (registers_of spec) held) u i r
 held_registers spec held u each i r at k below = held_bit spec held u i r k each at below ∙ sym (word_bit spec held i r k at below)

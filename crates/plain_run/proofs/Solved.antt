@@ -13,16 +13,18 @@ use Rattle.net_ir.specs.declared.design.Driver.{Driver}
 use Rattle.net_ir.specs.declared.design.Spec.{Spec}
 use Rattle.bit_ops.specs.Lists.{words, widths}
 use Rattle.net_ir.specs.Value.{widths_of}
-use Rattle.net_ir.specs.Drive.{holds, writes, NoneDrives, NoneWrites}
+use Rattle.net_ir.specs.Drive.{holds}
+use Rattle.net_ir.specs.Face.{stands_in}
 use Rattle.sv_base.specs.Meaning.{State}
 use Rattle.net_ir.specs.Register.{Register, registers_of}
 use Rattle.net_ir.specs.Solution.{Solves, IsValuation, IsDriven, IsHeld}
-use Rattle.plain_run.specs.Plain.{IsPlain, IsInput, SparesInputs}
+use Rattle.plain_run.specs.Plain.{IsPlain, IsInput, SparesInputs, written_by, NoneNames, NoneGives}
 use Rattle.plain_run.specs.code.Pass.{run, source_at, source_of, sources_of, state_of, KeepsInitial}
 use Rattle.plain_run.proofs.Elements.{all_both}
-use Rattle.plain_run.proofs.Order.{run_leaves, drives_all, none_drives, none_drives_first, none_holds, held_alone, held_is_written}
+use Rattle.plain_run.proofs.Order.{run_leaves, drives_all, none_gives, none_gives_bit, none_holds, held_alone, held_named}
+use Rattle.plain_run.proofs.Wholes.{all_standing}
 use Rattle.plain_run.proofs.Registers.{IsHeldBy, held_registers}
-use Rattle.plain_run.proofs.Unique.{length-widths, width_is, positive_widths}
+use Rattle.plain_run.proofs.Unique.{length-widths, width_is}
 use Rattle.plain_run.proofs.Passes.{length_from_widths, source_index, sources_widths}
 
 -- a value at a number below their count
@@ -117,14 +119,13 @@ not_input vars x v at inner input =
     let same : v ≡ input.0 = same_Some v input.0 (sym at ∙ input.1) in
     inner (ap (λ (w : Var). w.role) same ∙ input.2)
 
--- no driver writes an input
-spared : (vars : List Var) (drivers : List Driver) (x : ℕ) → AllByRecursion (SparesInputs vars) drivers → IsInput vars x →
-    NoneWrites (widths_of vars) drivers x 0
+-- no driver names an input
+spared : (vars : List Var) (drivers : List Driver) (x : ℕ) → AllByRecursion (SparesInputs vars) drivers → IsInput vars x → NoneNames drivers x
 spared vars [] x spares input = tt
-spared vars (d ∷ drivers) x spares input = (by_test (writes (widths_of vars) d x 0) refl, spared vars drivers x spares.1 input) where
-  by_test : (t : Bool) → writes (widths_of vars) d x 0 ≡ t → t ≡ false
+spared vars (d ∷ drivers) x spares input = (by_test (stands_in x (written_by d)) refl, spared vars drivers x spares.1 input) where
+  by_test : (t : Bool) → stands_in x (written_by d) ≡ t → t ≡ false
   by_test false is = refl
-  by_test true is = absurd (spares.0 x 0 is input)
+  by_test true is = absurd (all_standing (λ y. IsInput vars y → ⊥) (written_by d) x spares.0 is input)
 
 -- ---- the solution
 
@@ -135,27 +136,26 @@ pub pass_solves : (spec : Spec) (state : State) (held before u : List ℕ) → I
     ((x : ℕ) (v : Var) → slice_get spec.vars x ≡ Some v → v.role ≡ Input → slice_index before x ≡ slice_index state.inputs x) →
     ((x : ℕ) → (IsInput spec.vars x → ⊥) → slice_index before x ≡ slice_index held x) →
     KeepsInitial spec held →
-    (AllByRecursion (IsHeldBy (widths_of spec.vars) held u) spec.drivers → (i : ℕ) (r : Register) → slice_get (registers_of spec) i ≡ Some r → IsHeld state.registers u i r) →
+    (AllByRecursion (IsHeldBy spec.vars held u) spec.drivers →
+    (i : ℕ) (r : Register) → slice_get (registers_of spec) i ≡ Some r → IsHeld state.registers u i r) →
     u ≡ run (widths_of spec.vars) spec.drivers before → Solves spec state u
 pass_solves spec state held before u plain valuation before_long before_input before_inner initial registers is_run =
     let vars = spec.vars in
-    let ws = widths_of vars in
-    let positive = positive_widths vars plain.vars in
-    let leaves : (x : ℕ) → NoneDrives ws spec.drivers x 0 → slice_index u x ≡ slice_index before x =
-    λ x none. ap (λ w. slice_index w x) is_run ∙ run_leaves ws spec.drivers before x positive plain.whole none in
-    let Apart : Driver → Type 0 = λ d. (x k : ℕ) → holds ws d x k ≡ true → NoneDrives ws spec.drivers x 0 in
+    let leaves : (x : ℕ) → NoneGives spec.drivers x → slice_index u x ≡ slice_index before x =
+    λ x none. ap (λ w. slice_index w x) is_run ∙ run_leaves vars spec.drivers before x plain.whole none in
+    let Apart : Driver → Type 0 = λ d. (x k : ℕ) → holds vars d x k ≡ true → NoneGives spec.drivers x in
     record {
       valuation = valuation;
-      set = λ x v at input.
-          leaves x (none_drives ws spec.drivers x 0 (spared vars spec.drivers x plain.inner (v, at, input))) ∙ before_input x v at input;
-      registered = registers (all_both (SparesInputs vars) Apart (IsHeldBy ws held u)
-          (λ d spares apart x k holding. ap (λ n. bit_at n k) (leaves x (apart x k holding) ∙ before_inner x (spares x k (held_is_written ws d x k holding))))
-          spec.drivers plain.inner (held_alone ws spec.drivers positive plain.whole plain.ordered));
-      driven = subst (λ w. AllByRecursion (IsDriven ws w) spec.drivers) (sym is_run) (drives_all ws spec.drivers before positive before_long plain.whole plain.ordered);
+      set = λ x v at input. leaves x (none_gives spec.drivers x (spared vars spec.drivers x plain.inner (v, at, input))) ∙ before_input x v at input;
+      registered = registers (all_both (SparesInputs vars) Apart (IsHeldBy vars held u)
+          (λ d spares apart x k holding. ap (λ n. bit_at n k)
+          (leaves x (apart x k holding) ∙ before_inner x (all_standing (λ y. IsInput vars y → ⊥) (written_by d) x spares (held_named vars d x k holding))))
+          spec.drivers plain.inner (held_alone vars spec.drivers plain.ordered));
+      driven = subst (λ w. AllByRecursion (IsDriven vars w) spec.drivers) (sym is_run)
+          (drives_all vars spec.drivers before before_long plain.whole plain.ordered);
       undriven = λ x k v at inner within none.
-          let bit : k < slice_index ws x = subst (λ n. k < n) (sym (width_is vars x v at)) within in
-          ap (λ n. bit_at n k) (leaves x (none_drives_first ws spec.drivers x k bit (none_drives ws spec.drivers x k none)) ∙ before_inner x (not_input vars x v at inner))
-          ∙ initial x k v at within (none_holds ws spec.drivers x k none);
+          ap (λ n. bit_at n k) (leaves x (none_gives_bit vars spec.drivers x k v at within plain.whole none) ∙ before_inner x (not_input vars x v at inner))
+          ∙ initial x k v at within (none_holds vars spec.drivers x k none);
     }
 
 pub run_solves : (spec : Spec) (inputs held values : List Bits) → IsPlain spec → widths inputs ≡ widths_of spec.vars → widths held ≡ widths_of spec.vars →

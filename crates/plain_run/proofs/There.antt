@@ -94,7 +94,7 @@ first_inner spec state x inner = by_case (slice_get_cases spec.vars x).1 where
       get_or_past (first_words spec state) x 0 (subst (λ n. n ≤ x) (sym (length-words_by (first_word spec state) 0 spec.vars)) past.0)
       ∙ sym (get_or_past (held_words spec state) x 0 (subst (λ n. n ≤ x) (sym (length-words_by (held_word spec state) 0 spec.vars)) past.0))
 
-registers_kept : (spec : Spec) (state : State) (u : List ℕ) → AllByRecursion (IsHeldBy (widths_of spec.vars) (held_words spec state) u) spec.drivers →
+registers_kept : (spec : Spec) (state : State) (u : List ℕ) → AllByRecursion (IsHeldBy spec.vars (held_words spec state) u) spec.drivers →
     (i : ℕ) (r : Register) → slice_get (registers_of spec) i ≡ Some r → IsHeld state.registers u i r
 registers_kept spec state u each i r at k below =
     let bit = register_bit spec i r k at below in
@@ -111,7 +111,7 @@ has_solution law spec state plain levels =
     let u = run ws spec.drivers before in
     let each : length before ≡ length spec.vars = length-words_by (first_word spec state) 0 spec.vars in
     let long : length before ≡ length ws = each ∙ sym (length-widths spec.vars) in
-    let small : AreWordsOf ws u = run_small law ws spec.drivers before long plain.whole (first_small spec state levels) in
+    let small : AreWordsOf ws u = run_small law spec.vars spec.drivers before long plain.whole (first_small spec state levels) in
     pass_solves spec state (held_words spec state) before u plain
     (record {
       each = run_length ws spec.drivers before ∙ each;

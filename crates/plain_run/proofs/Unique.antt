@@ -1,10 +1,10 @@
 -- A plain design has at most one solution in a state.
-use Rattle.std.proofs.Common.{◌≡◌, ℕ, ◌<◌, ◌≤◌, ◌^◌, ◌+◌, ◌-◌, get_or, List, length, refl, sym, ◌∙◌, ap, subst, arith, None, Some, inl, inr}
+use Rattle.std.proofs.Common.{◌≡◌, ℕ, ◌<◌, ◌≤◌, ◌^◌, ◌+◌, ◌-◌, get_or, List, length, refl, sym, ◌∙◌, subst, arith, None, Some, inl, inr}
 use Rattle.std.specs.Prelude.{slice_index, slice_get, ◌⊎◌}
 use Rattle.std.specs.Int.{bit_at}
 use Rattle.std.proofs.lemmas.Nat.Bits.{same_from_bits_below}
-use Rattle.std.proofs.lemmas.List.{ext_get_or, get_or_past, get_or-map, length-map}
-use Rattle.std.proofs.lemmas.Option.{slice_get_cases, slice_get_within, get_or_from_slice_get}
+use Rattle.std.proofs.lemmas.List.{ext_get_or, get_or_past}
+use Rattle.std.proofs.lemmas.Option.{slice_get_cases}
 use Rattle.sv_base.specs.Meaning.{State}
 use Rattle.net_ir.specs.declared.design.Role.{Role}
 use Rattle.net_ir.specs.declared.design.Role.TheVariants.{Input, Output, Inner}
@@ -14,35 +14,12 @@ use Rattle.net_ir.specs.Value.{widths_of}
 use Rattle.net_ir.specs.Drive.{NoneHolds}
 use Rattle.net_ir.specs.Register.{registers_of}
 use Rattle.net_ir.specs.Solution.{Solves, IsValuation}
-use Rattle.plain_run.specs.Plain.{IsPlain, HaveInitialValues}
-use Rattle.plain_run.proofs.Elements.{all_get}
-use Rattle.plain_run.proofs.Order.{ArePositive, AgreeBut, agree_all, none_writes, none_drives_at}
+use Rattle.plain_run.specs.Plain.{IsPlain}
+pub use Rattle.plain_run.proofs.Wholes.{length-widths, width_is, element_at}
+use Rattle.plain_run.proofs.Order.{AgreeBut, agree_all, none_writes, none_drives}
 use Rattle.plain_run.proofs.Registers.{HasBit, register_or_none}
 
--- ---- variables by their numbers
-
-pub length-widths : (vars : List Var) → length (widths_of vars) ≡ length vars
-length-widths vars = length-map vars (λ v. v.width)
-
--- the width of a variable that is there
-pub width_is : (vars : List Var) (x : ℕ) (v : Var) → slice_get vars x ≡ Some v → slice_index (widths_of vars) x ≡ v.width
-width_is vars x v is =
-    get_or-map (λ (w : Var). w.width) vars x v 0 (slice_get_within vars x v is) ∙ ap (λ (w : Var). w.width) (get_or_from_slice_get vars x v v is)
-
--- an element stands at each number below their count
-pub element_at : {X : Type 0} (xs : List X) (i : ℕ) → i < length xs → (x : X) × (slice_get xs i ≡ Some x)
-element_at {X = X} xs i within = by_case (slice_get_cases xs i).1 where
-  by_case : ((x : X) × (i < length xs) × (slice_get xs i ≡ Some x) × (get_or xs i x ≡ x)) ⊎ ((length xs ≤ i) × (slice_get xs i ≡ None)) →
-      (x : X) × (slice_get xs i ≡ Some x)
-  by_case (inl found) = (found.0, found.2)
-  by_case (inr past) = absurd (let far : length xs ≤ i = past.0 in omega arith)
-
-pub positive_widths : (vars : List Var) → HaveInitialValues vars → ArePositive (widths_of vars)
-positive_widths vars has x within =
-    let found = element_at vars x (subst (λ n. x < n) (length-widths vars) within) in
-    let same : found.0.init.width ≡ found.0.width = all_get (λ (v : Var). v.init.width ≡ v.width) vars x found.0 has found.1 in
-    let one : 1 ≤ found.0.init.width = found.0.init.positive in
-    subst (λ n. 0 < n) (sym (width_is vars x found.0 found.1)) (omega arith)
+-- ---- words of variables
 
 pub small_words : (vars : List Var) (u : List ℕ) → IsValuation vars u → (x : ℕ) → x < length (widths_of vars) →
     slice_index u x < 2 ^ slice_index (widths_of vars) x
@@ -59,10 +36,10 @@ input_or_not Inner = inr (λ e. cc)
 
 -- two solutions agree where no driver gives at all times
 agree_undriven : (spec : Spec) (state : State) (u v : List ℕ) → IsPlain spec → Solves spec state u → Solves spec state v →
-    AgreeBut (widths_of spec.vars) spec.drivers u v
+    AgreeBut spec.drivers u v
 agree_undriven spec state u v plain a b x none = by_case (slice_get_cases spec.vars x).1 where
   by_holder : (w : Var) (k : ℕ) → slice_get spec.vars x ≡ Some w → (w.role ≡ Input → ⊥) → k < w.width →
-      HasBit (registers_of spec) x k ⊎ NoneHolds (widths_of spec.vars) spec.drivers x k → bit_at (slice_index u x) k ≡ bit_at (slice_index v x) k
+      HasBit (registers_of spec) x k ⊎ NoneHolds spec.vars spec.drivers x k → bit_at (slice_index u x) k ≡ bit_at (slice_index v x) k
   by_holder w k is inner within (inl has) =
       let low = has.from in
       let high = has.to in
@@ -74,8 +51,7 @@ agree_undriven spec state u v plain a b x none = by_case (slice_get_cases spec.v
       subst (λ n. bit_at (slice_index u x) n ≡ bit_at (slice_index v x) n) bit
       (subst (λ y. bit_at (slice_index u y) (has.register.low + j) ≡ bit_at (slice_index v y) (has.register.low + j)) has.var same)
   by_holder w k is inner within (inr clear) =
-      let ws = widths_of spec.vars in
-      let unwritten = none_writes ws spec.drivers x k (none_drives_at ws spec.drivers x k (positive_widths spec.vars plain.vars) plain.whole none) clear in
+      let unwritten = none_writes spec.vars spec.drivers x k (none_drives spec.vars spec.drivers x k none) clear in
       a.undriven x k w is inner within unwritten ∙ sym (b.undriven x k w is inner within unwritten)
 
   by_role : (w : Var) → slice_get spec.vars x ≡ Some w → (w.role ≡ Input) ⊎ (w.role ≡ Input → ⊥) → slice_index u x ≡ slice_index v x
@@ -93,6 +69,6 @@ agree_undriven spec state u v plain a b x none = by_case (slice_get_cases spec.v
 pub one_solution : (spec : Spec) (state : State) (u v : List ℕ) → IsPlain spec → Solves spec state u → Solves spec state v → u ≡ v
 one_solution spec state u v plain a b =
     ext_get_or 0 u v (a.valuation.each ∙ sym b.valuation.each) (λ x within.
-    agree_all (widths_of spec.vars) spec.drivers u v (positive_widths spec.vars plain.vars) plain.whole plain.ordered
+    agree_all spec.vars spec.drivers u v plain.whole plain.ordered
     (λ y there. (small_words spec.vars u a.valuation y there, small_words spec.vars v b.valuation y there))
     a.driven b.driven (agree_undriven spec state u v plain a b) x)

@@ -7,7 +7,7 @@ ghost use Rattle.std.specs.List.{AllByRecursion};
 ghost use Rattle.bit_ops.specs.Lists.{words, widths};
 ghost use Rattle.net_ir.specs.Value.{widths_of, whole_number, picked, operands, size, val};
 ghost use Rattle.net_ir.specs.Lawful.{IsLawful};
-ghost use Rattle.plain_run.specs.Plain.{IsWhole, IsPlain};
+ghost use Rattle.plain_run.specs.Plain.{whole_var, IsWhole, IsPlain};
 ghost use Rattle.plain_run.specs.code.Pass.{source_of, sources_of, KeepsInitial, state_of, IsStorable, store, effect, run};
 ghost use Rattle.net_ir.specs.Solution.{Solves};
 
@@ -143,9 +143,9 @@ pub fn evaluate(term: &Term, values: &[Bits]) -> Bits
     }
 }
 
-/// The values of all variables in the design's one solution for these levels of the inputs and these words of the
-/// registers. A value for each variable stands in `inputs`, of which those of inputs are read, and in `registers`, where
-/// what no clocked process writes has its initial value. Takes no memory.
+/// The values of all variables in the design's one solution for these levels of the inputs and these words
+/// of the registers. A value for each variable stands in `inputs`, of which those of inputs are read, and
+/// in `registers`, where each bit that no clocked process writes has its initial value. Takes no memory.
 pub fn solve(spec: &Spec, inputs: &[Bits], registers: &[Bits], values: &mut [Bits])
     requires plain { IsPlain spec.now }
     requires inputs { widths inputs.now ≡ widths_of spec.now.vars }
@@ -156,7 +156,7 @@ pub fn solve(spec: &Spec, inputs: &[Bits], registers: &[Bits], values: &mut [Bit
     ensures solved { Solves spec.now (state_of spec.now inputs.now registers.now) (words values.new) }
 {
     set_sources(spec.vars.as_slice(), inputs, registers, values);
-    drive_all(spec.drivers.as_slice(), values);
+    drive_all(spec.vars.as_slice(), spec.drivers.as_slice(), values);
 }
 
 /// What a variable has before any driver's turn.
@@ -183,25 +183,39 @@ fn set_sources(vars: &[Var], inputs: &[Bits], registers: &[Bits], values: &mut [
 }
 
 /// Takes each of the drivers once, in their order.
-fn drive_all(drivers: &[Driver], values: &mut [Bits])
-    requires { AllByRecursion (IsWhole (widths values.old)) drivers.now }
-    ensures widths { widths values.new ≡ widths values.old }
-    ensures words { words values.new ≡ run (widths values.old) drivers.now (words values.old) }
+fn drive_all(vars: &[Var], drivers: &[Driver], values: &mut [Bits])
+    requires values { widths values.old ≡ widths_of vars.now }
+    requires whole { AllByRecursion (IsWhole vars.now) drivers.now }
+    ensures widths { widths values.new ≡ widths_of vars.now }
+    ensures words { words values.new ≡ run (widths_of vars.now) drivers.now (words values.old) }
 {
     for driver in drivers {
-        drive(driver, values);
+        drive(vars, driver, values);
     }
 }
 
 /// Gives a driver's variable its value.
-fn drive(driver: &Driver, values: &mut [Bits])
-    requires { IsWhole (widths values.old) driver.now }
-    ensures widths { widths values.new ≡ widths values.old }
-    ensures words { words values.new ≡ effect (widths values.old) driver.now (words values.old) }
+fn drive(vars: &[Var], driver: &Driver, values: &mut [Bits])
+    requires values { widths values.old ≡ widths_of vars.now }
+    requires whole { IsWhole vars.now driver.now }
+    ensures widths { widths values.new ≡ widths_of vars.now }
+    ensures words { words values.new ≡ effect (widths_of vars.now) driver.now (words values.old) }
 {
     match driver {
         Driver::Assign { target, value, .. } => store(target, evaluate(value, values), values),
+        Driver::Comb { .. } => unreachable!(),
         Driver::Clocked { .. } => {}
+        Driver::Instance(_) => unreachable!(),
+    }
+}
+
+/// The variable of which a target is the whole, where it is that of one.
+pub fn whole_var(target: &Target) -> Option<u32>
+    ensures { result ≡ whole_var target.now }
+{
+    match target {
+        Target::Of { var, pos: None, .. } => *var,
+        _ => None,
     }
 }
 
@@ -211,7 +225,7 @@ pub fn store(target: &Target, value: Bits, values: &mut [Bits])
     ensures widths { widths values.new ≡ widths values.old }
     ensures words { words values.new ≡ store target.now value.word (words values.old) }
 {
-    match target.var() {
+    match whole_var(target) {
         Some(var) => values[var as usize] = value,
         None => unreachable!(),
     }

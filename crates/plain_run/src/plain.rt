@@ -1,35 +1,34 @@
 //! Whether a design's drivers can be taken in the order of the text.
 
-ghost use Rattle.std.specs.Prelude.{◌≡◌, ◌↔◌, true, IsTrue, IfOk};
+ghost use Rattle.std.specs.Prelude.{◌≡◌, ◌↔◌, true, IsTrue, IfOk, OnOk};
 ghost use Rattle.std.specs.List.{AllByRecursion};
-ghost use Rattle.net_ir.specs.Value.{widths_of, reads_of};
-ghost use Rattle.net_ir.specs.Statement.{targets_of};
-ghost use Rattle.net_ir.specs.Drive.{target_var};
+ghost use Rattle.net_ir.specs.Value.{reads_of};
+ghost use Rattle.net_ir.specs.Target.{target_vars};
 ghost use Rattle.net_ir.specs.Facts.{HasPortsFirst};
-ghost use Rattle.plain_run.specs.Plain.{HaveInitialValues, IsWhole, SparesInputs, AreOrdered, HasPlainClocks, WritesNoNet, IsPlain};
 ghost use Rattle.net_ir.specs.Marks.{mark_all};
-ghost use Rattle.plain_run.specs.code.Marks.{is_input, is_clock, are_clocks, has_clocks};
-ghost use Rattle.plain_run.specs.code.Turns.{is_free, is_free_at, are_free, are_clear, written_by, driven_by, takes_turn, names_no_net, name_no_nets, writes_no_net};
+ghost use Rattle.plain_run.specs.Plain.{HaveInitialValues, IsWhole, SparesInputs, AreOrdered, HasPlainClocks, WritesNoNet, IsPlain};
+ghost use Rattle.plain_run.specs.code.Marks.{named_in, is_input, is_clock, are_clocks, has_clocks};
+ghost use Rattle.plain_run.specs.code.Turns.{is_free, are_free, are_clear, names_of, given_by, is_settled, takes_turn, is_no_net, are_no_nets, writes_no_net};
 
-use crate::marks::{mark_target, mark_targets};
+use crate::marks::{mark_each, push_target, push_targets};
 use net_ir::marks::{is_clear, read_marks};
 use net_ir::outside::is_inner;
 use net_ir::{Driver, Role, Spec, Stmt, Target, Term, Trigger, Var};
 use std::alloc::{AllocError, Global};
 
-/// Whether a design of whole assignments is plain: no bit has two drivers, no driver writes an input, no assignment reads
-/// what it or a later one writes, each event control names an input of one bit that no expression reads, no clocked
-/// process writes a net (IEEE 1800-2017, 6.5 and 10.4), and the ports are the first variables. The work is linear in
-/// the design.
+/// Whether a design of whole assignments is plain: no variable has two drivers, no driver writes an input, no
+/// assignment reads what it or a later one gives at all times, each event control names an input of one bit that no
+/// expression reads, no process writes a net (IEEE 1800-2017, 6.5 and 10.4), and the ports are the first variables.
+/// The work is linear in the design.
 pub fn is_plain(alloc: Global, spec: &Spec) -> Result<bool, AllocError>
     requires vars { HaveInitialValues spec.now.vars }
-    requires whole { AllByRecursion (IsWhole (widths_of spec.now.vars)) spec.now.drivers }
+    requires whole { AllByRecursion (IsWhole spec.now.vars) spec.now.drivers }
     ensures { IfOk result (λ yes. IsTrue yes ↔ IsPlain spec.now) }
 {
     if !can_be_taken_in_order(alloc, spec)? {
         return Ok(false);
     }
-    if !write_no_nets(spec) {
+    if !write_no_nets(alloc, spec)? {
         return Ok(false);
     }
     if !has_ports_first(spec) {
@@ -38,44 +37,91 @@ pub fn is_plain(alloc: Global, spec: &Spec) -> Result<bool, AllocError>
     have_clocks(alloc, spec)
 }
 
-/// Whether in a design of whole assignments no variable has two drivers, no driver writes an input, and no assignment
-/// reads what it or a later one writes.
+/// Whether in a design of whole assignments no variable has two drivers, no driver writes an input, and no
+/// assignment reads what it or a later one gives at all times.
 fn can_be_taken_in_order(alloc: Global, spec: &Spec) -> Result<bool, AllocError>
-    requires vars { HaveInitialValues spec.now.vars }
-    requires whole { AllByRecursion (IsWhole (widths_of spec.now.vars)) spec.now.drivers }
-    ensures { IfOk result (λ yes. IsTrue yes ↔ (AllByRecursion (SparesInputs spec.now.vars) spec.now.drivers × AreOrdered (widths_of spec.now.vars) spec.now.drivers)) }
+    requires whole { AllByRecursion (IsWhole spec.now.vars) spec.now.drivers }
+    ensures { IfOk result (λ yes. IsTrue yes ↔ (AllByRecursion (SparesInputs spec.now.vars) spec.now.drivers × AreOrdered spec.now.drivers)) }
 {
     let vars = spec.vars.as_slice();
     let drivers = spec.drivers.as_slice();
     let mut written = vec![in alloc; false; vars.len()]?;
     let mut driven = vec![in alloc; false; vars.len()]?;
     for turn in (0..drivers.len()).rev() {
-        if !take_turn(&drivers[turn], vars, &mut written, &mut driven) {
+        if !take_turn(alloc, &drivers[turn], vars, &mut written, &mut driven)? {
             return Ok(false);
         }
     }
     Ok(true)
 }
 
-/// Marks what a driver writes as written, and what it gives at all times as driven. Tells whether its targets were no
-/// inputs and not written before, and whether what it gives at all times depends on nothing that is driven now.
-fn take_turn(driver: &Driver, vars: &[Var], written: &mut Vec<bool>, driven: &mut Vec<bool>) -> bool
-    ensures written { written.new.items ≡ mark_all (written_by driver.now) written.old.items }
-    ensures driven { driven.new.items ≡ mark_all (driven_by driver.now) driven.old.items }
-    ensures free { result ≡ takes_turn vars.now driver.now written.old.items driven.old.items }
+/// Marks what a driver writes as written, and what a continuous assignment gives as driven. Tells whether its
+/// variables were no inputs and not written before, and whether a continuous assignment reads nothing that is
+/// driven now.
+fn take_turn(
+    alloc: Global,
+    driver: &Driver,
+    vars: &[Var],
+    written: &mut Vec<bool>,
+    driven: &mut Vec<bool>,
+) -> Result<bool, AllocError>
+    ensures written { OnOk result (written.new.items ≡ mark_all (names_of driver.now) written.old.items) }
+    ensures driven { OnOk result (driven.new.items ≡ mark_all (given_by driver.now (names_of driver.now)) driven.old.items) }
+    ensures free { IfOk result (λ free. free ≡ takes_turn vars.now driver.now written.old.items driven.old.items) }
+{
+    let names = names_of(alloc, driver)?;
+    let free = are_free(&names, vars, written);
+    mark_each(&names, written);
+    mark_given(driver, &names, driven);
+    Ok(free && is_settled(driver, driven))
+}
+
+/// The variables that the targets of a driver name; of an instance none.
+fn names_of(alloc: Global, driver: &Driver) -> Result<Vec<u32>, AllocError>
+    ensures { IfOk result (λ names. names.items ≡ names_of driver.now) }
 {
     match driver {
-        Driver::Assign { target, value, .. } => {
-            let free = is_free_target(target, vars, written);
-            mark_target(target, written);
-            mark_target(target, driven);
-            free && is_unread(value, driven)
-        }
-        Driver::Clocked { body, .. } => {
-            let free = are_free(body, vars, written);
-            mark_targets(body, written);
-            free
-        }
+        Driver::Assign { target, .. } => target_names(alloc, target),
+        Driver::Comb { body, .. } | Driver::Clocked { body, .. } => body_names(alloc, body),
+        Driver::Instance(_) => Ok(Vec::new(alloc)),
+    }
+}
+
+/// The variables that a target names.
+fn target_names(alloc: Global, target: &Target) -> Result<Vec<u32>, AllocError>
+    ensures { IfOk result (λ names. names.items ≡ target_vars target.now) }
+{
+    let mut names = Vec::new(alloc);
+    push_target(target, &mut names)?;
+    Ok(names)
+}
+
+/// The variables that the targets of a statement name.
+fn body_names(alloc: Global, body: &Stmt) -> Result<Vec<u32>, AllocError>
+    ensures { IfOk result (λ names. names.items ≡ named_in body.now) }
+{
+    let mut names = Vec::new(alloc);
+    push_targets(body, &mut names)?;
+    Ok(names)
+}
+
+/// Marks the variables, where the driver is a continuous assignment.
+fn mark_given(driver: &Driver, names: &[u32], driven: &mut Vec<bool>)
+    ensures { driven.new.items ≡ mark_all (given_by driver.now names.now) driven.old.items }
+{
+    match driver {
+        Driver::Assign { .. } => mark_each(names, driven),
+        Driver::Comb { .. } | Driver::Clocked { .. } | Driver::Instance(_) => {}
+    }
+}
+
+/// Whether a driver is no continuous assignment that reads a variable that is marked.
+fn is_settled(driver: &Driver, driven: &[bool]) -> bool
+    ensures { result ≡ is_settled driver.now driven.now }
+{
+    match driver {
+        Driver::Assign { value, .. } => is_unread(value, driven),
+        Driver::Comb { .. } | Driver::Clocked { .. } | Driver::Instance(_) => true,
     }
 }
 
@@ -100,31 +146,16 @@ fn is_free(vars: &[Var], written: &[bool], var: usize) -> bool
     is_clear(written, var) && !fed
 }
 
-/// Whether a target names such a variable.
-fn is_free_target(target: &Target, vars: &[Var], written: &[bool]) -> bool
-    ensures { result ≡ is_free_at vars.now written.now (target_var target.now) }
+/// Whether each of these variables is such a one.
+fn are_free(names: &[u32], vars: &[Var], written: &[bool]) -> bool
+    ensures { result ≡ are_free vars.now written.now names.now }
 {
-    match target.var() {
-        Some(var) => is_free(vars, written, var as usize),
-        None => false,
-    }
-}
-
-/// Whether each target of a statement does.
-fn are_free(statement: &Stmt, vars: &[Var], written: &[bool]) -> bool
-    ensures { result ≡ are_free vars.now written.now (targets_of statement.now) }
-{
-    match statement {
-        Stmt::Block(parts) => {
-            for part in parts.as_slice() {
-                if !are_free(part, vars, written) {
-                    return false;
-                }
-            }
-            true
+    for var in names {
+        if !is_free(vars, written, *var as usize) {
+            return false;
         }
-        Stmt::Assign { target, .. } => is_free_target(target, vars, written),
     }
+    true
 }
 
 /// Whether a term reads no variable that is marked.
@@ -146,55 +177,50 @@ fn is_unread(term: &Term, marks: &[bool]) -> bool
     }
 }
 
-/// Whether no clocked process writes a net.
-fn write_no_nets(spec: &Spec) -> bool
-    ensures { IsTrue result ↔ AllByRecursion (WritesNoNet spec.now.vars) spec.now.drivers }
+/// Whether no process writes a net.
+fn write_no_nets(alloc: Global, spec: &Spec) -> Result<bool, AllocError>
+    ensures { IfOk result (λ yes. IsTrue yes ↔ AllByRecursion (WritesNoNet spec.now.vars) spec.now.drivers) }
 {
     let vars = spec.vars.as_slice();
     for driver in spec.drivers.as_slice() {
-        if !writes_no_net(driver, vars) {
+        if !writes_no_net(alloc, driver, vars)? {
+            return Ok(false);
+        }
+    }
+    Ok(true)
+}
+
+/// Whether a driver is no process that writes a net. Continuous assignments may write nets and variables.
+fn writes_no_net(alloc: Global, driver: &Driver, vars: &[Var]) -> Result<bool, AllocError>
+    ensures { IfOk result (λ yes. yes ≡ writes_no_net vars.now driver.now) }
+{
+    match driver {
+        Driver::Assign { .. } | Driver::Instance(_) => Ok(true),
+        Driver::Comb { body, .. } | Driver::Clocked { body, .. } => {
+            let names = body_names(alloc, body)?;
+            Ok(are_no_nets(&names, vars))
+        }
+    }
+}
+
+/// Whether none of these variables is a net.
+fn are_no_nets(names: &[u32], vars: &[Var]) -> bool
+    ensures { result ≡ are_no_nets vars.now names.now }
+{
+    for var in names {
+        if !is_no_net(vars, *var as usize) {
             return false;
         }
     }
     true
 }
 
-/// Whether a driver is no clocked process that writes a net. Continuous assignments may write nets and variables.
-fn writes_no_net(driver: &Driver, vars: &[Var]) -> bool
-    ensures { result ≡ writes_no_net vars.now driver.now }
+/// Whether a variable is no net.
+fn is_no_net(vars: &[Var], var: usize) -> bool
+    ensures { result ≡ is_no_net vars.now var }
 {
-    match driver {
-        Driver::Assign { .. } => true,
-        Driver::Clocked { body, .. } => name_no_nets(body, vars),
-    }
-}
-
-/// Whether no target of a statement names a net.
-fn name_no_nets(statement: &Stmt, vars: &[Var]) -> bool
-    ensures { result ≡ name_no_nets vars.now (targets_of statement.now) }
-{
-    match statement {
-        Stmt::Block(parts) => {
-            for part in parts.as_slice() {
-                if !name_no_nets(part, vars) {
-                    return false;
-                }
-            }
-            true
-        }
-        Stmt::Assign { target, .. } => names_no_net(target, vars),
-    }
-}
-
-/// Whether a target names no net.
-fn names_no_net(target: &Target, vars: &[Var]) -> bool
-    ensures { result ≡ names_no_net vars.now (target_var target.now) }
-{
-    match target.var() {
-        Some(var) => match vars.get(var as usize) {
-            Some(var) => !var.wire,
-            None => true,
-        },
+    match vars.get(var) {
+        Some(var) => !var.wire,
         None => true,
     }
 }
@@ -233,7 +259,7 @@ fn has_clocks(driver: &Driver, vars: &[Var], read: &[bool]) -> bool
     ensures { result ≡ has_clocks vars.now read.now driver.now }
 {
     match driver {
-        Driver::Assign { .. } => true,
+        Driver::Assign { .. } | Driver::Comb { .. } | Driver::Instance(_) => true,
         Driver::Clocked { triggers, .. } => are_clocks(triggers.as_slice(), vars, read),
     }
 }

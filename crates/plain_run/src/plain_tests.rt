@@ -1,11 +1,10 @@
 //! Which designs are plain.
 
-ghost use Rattle.std.specs.Prelude.{◌≡◌, ◌<◌, [], ◌∷◌, Some, IfOk};
+ghost use Rattle.std.specs.Prelude.{◌≡◌, ◌<◌, List, [], ◌∷◌, Some, IfOk};
 ghost use Rattle.std.specs.List.{AllByRecursion};
 ghost use Rattle.net_ir.specs.Value.{widths_of, size};
-ghost use Rattle.net_ir.specs.Drive.{target_var};
 ghost use Rattle.net_ir.specs.Lawful.{IsLawful};
-ghost use Rattle.plain_run.specs.Plain.{HaveInitialValues, IsWhole};
+ghost use Rattle.plain_run.specs.Plain.{whole_var, HaveInitialValues, IsWhole};
 
 use crate::is_plain;
 use bit_ops::Bits;
@@ -66,12 +65,13 @@ fn vars(alloc: Global, roles: [Role; 4]) -> Result<Sequence<Var>, AllocError>
 }
 
 fn target(alloc: Global, var: u32) -> Target
-    ensures { target_var result ≡ Some var }
+    ensures { whole_var result ≡ Some var }
 {
     Target::Of {
         var: Some(var),
         name: Name::empty(alloc),
         place: Place::NOWHERE,
+        pos: None,
     }
 }
 
@@ -87,7 +87,7 @@ fn read(var: u32) -> Term
 }
 
 fn driver(alloc: Global, row: Row) -> Result<Driver, Fail>
-    ensures { IfOk result (IsWhole (1 ∷ 1 ∷ 1 ∷ 1 ∷ [])) }
+    ensures { IfOk result (λ driver. (vars : List Var) → widths_of vars ≡ 1 ∷ 1 ∷ 1 ∷ 1 ∷ [] → IsWhole vars driver) }
 {
     let (Row::Assign(written, seen) | Row::Process(written, seen)) = row;
     if written > NET || seen > NET {
@@ -124,7 +124,7 @@ fn driver(alloc: Global, row: Row) -> Result<Driver, Fail>
 
 fn design(alloc: Global, roles: [Role; 4], rows: &[Row]) -> Result<Spec, Fail>
     ensures vars { IfOk result (λ spec. HaveInitialValues spec.vars) }
-    ensures whole { IfOk result (λ spec. AllByRecursion (IsWhole (widths_of spec.vars)) spec.drivers) }
+    ensures whole { IfOk result (λ spec. AllByRecursion (IsWhole spec.vars) spec.drivers) }
 {
     let mut drivers = Sequence::new(alloc);
     for row in rows {
@@ -133,6 +133,7 @@ fn design(alloc: Global, roles: [Role; 4], rows: &[Row]) -> Result<Spec, Fail>
     Ok(Spec {
         module: Name::empty(alloc),
         place: Place::NOWHERE,
+        params: Sequence::new(alloc),
         vars: vars(alloc, roles)?,
         drivers,
     })

@@ -3,18 +3,17 @@
 ghost use Rattle.std.specs.Prelude.{◌≡◌, slice_index};
 ghost use Rattle.std.specs.List.{AllByRecursion, list_any};
 ghost use Rattle.bit_ops.specs.Lists.{words, widths};
-ghost use Rattle.net_ir.specs.declared.statement.Stmt.TheFolds.{every-Stmt};
 ghost use Rattle.net_ir.specs.Value.{widths_of};
-ghost use Rattle.net_ir.specs.Statement.{writes_of};
 ghost use Rattle.net_ir.specs.Register.{registers_of, register_words};
-ghost use Rattle.plain_run.specs.Plain.{IsWhole, IsWholeLayer, IsPlain};
-ghost use Rattle.plain_run.specs.code.Pass.{KeepsInitial, store_all};
-ghost use Rattle.net_ir.specs.Run.{is_edge, occurs, sampled};
+ghost use Rattle.plain_run.specs.Plain.{IsWhole, IsPlainStmt, IsPlain};
+ghost use Rattle.plain_run.specs.code.Pass.{KeepsInitial};
+ghost use Rattle.plain_run.specs.code.Whole.{whole_writes, whole_sampled, store_all};
+ghost use Rattle.net_ir.specs.Run.{is_edge, occurs};
 ghost use Rattle.net_ir.specs.Stepping.{Samples};
 
 use crate::evaluator::{evaluate, store};
 use bit_ops::Bits;
-use net_ir::{Driver, Spec, Stmt, Trigger};
+use net_ir::{Driver, Spec, Stmt, Trigger, Var};
 
 /// Gives the registers whose edge occurs, where the inputs change from `before` to `after`, what they sample in the
 /// solution `values` of the state before. A value for each variable stands in each list. Takes no memory.
@@ -30,28 +29,38 @@ pub fn sample(spec: &Spec, values: &[Bits], before: &[Bits], after: &[Bits], reg
     ensures initial { KeepsInitial spec.now (words registers.old) → KeepsInitial spec.now (words registers.new) }
 {
     for driver in spec.drivers.as_slice() {
-        sample_driver(driver, values, before, after, registers);
+        sample_driver(
+            driver,
+            spec.vars.as_slice(),
+            values,
+            before,
+            after,
+            registers,
+        );
     }
 }
 
 /// Gives a driver's registers what they sample, where their edge occurs.
 fn sample_driver(
     driver: &Driver,
+    vars: &[Var],
     values: &[Bits],
     before: &[Bits],
     after: &[Bits],
     registers: &mut [Bits],
 )
-    requires whole { IsWhole (widths values.now) driver.now }
-    requires registers { widths registers.old ≡ widths values.now }
+    requires whole { IsWhole vars.now driver.now }
+    requires values { widths values.now ≡ widths_of vars.now }
+    requires registers { widths registers.old ≡ widths_of vars.now }
     ensures widths { widths registers.new ≡ widths registers.old }
-    ensures words { words registers.new ≡ store_all (sampled (widths values.now) (words values.now) (words before.now) (words after.now) driver.now) (words registers.old) }
+    ensures words { words registers.new ≡ store_all (whole_sampled (widths_of vars.now) (words values.now) (words before.now) (words after.now) driver.now)
+        (words registers.old) }
 {
     match driver {
-        Driver::Assign { .. } => {}
+        Driver::Assign { .. } | Driver::Comb { .. } | Driver::Instance(_) => {}
         Driver::Clocked { triggers, body, .. } => {
             if any_occurs(triggers.as_slice(), before, after) {
-                execute(body, values, registers);
+                execute(body, vars, values, registers);
             }
         }
     }
@@ -102,18 +111,20 @@ fn is_edge(falling: bool, before: u64, after: u64) -> bool
 }
 
 /// Executes a statement: reads in `values`, writes in `registers`.
-fn execute(body: &Stmt, values: &[Bits], registers: &mut [Bits])
-    requires whole { every-Stmt (IsWholeLayer (widths values.now)) body.now }
-    requires registers { widths registers.old ≡ widths values.now }
+fn execute(body: &Stmt, vars: &[Var], values: &[Bits], registers: &mut [Bits])
+    requires plain { IsPlainStmt vars.now body.now }
+    requires values { widths values.now ≡ widths_of vars.now }
+    requires registers { widths registers.old ≡ widths_of vars.now }
     ensures widths { widths registers.new ≡ widths registers.old }
-    ensures words { words registers.new ≡ store_all (writes_of (widths values.now) (words values.now) body.now) (words registers.old) }
+    ensures words { words registers.new ≡ store_all (whole_writes (widths_of vars.now) (words values.now) body.now) (words registers.old) }
 {
     match body {
         Stmt::Block(parts) => {
             for part in parts.as_slice() {
-                execute(part, values, registers);
+                execute(part, vars, values, registers);
             }
         }
+        Stmt::If(..) | Stmt::Case(..) => unreachable!(),
         Stmt::Assign { target, value, .. } => store(target, evaluate(value, values), registers),
     }
 }

@@ -62,6 +62,7 @@ fn design(alloc: Global) -> Result<Spec, AllocError>
     Ok(Spec {
         module: Name::empty(alloc),
         place: Place::NOWHERE,
+        params: Sequence::new(alloc),
         vars,
         drivers: Sequence::new(alloc),
     })

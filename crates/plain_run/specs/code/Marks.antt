@@ -1,20 +1,32 @@
--- What targets name, and whether event controls name clocks, by marks of variables.
+-- What statements name, and whether event controls name clocks, by marks of variables.
 use Rattle.std.specs.Prelude.{ℕ, Bool, true, false, not, ◌==◌, ◌&&◌, List, [], ◌∷◌, Option, None, Some, slice_get, if◌then◌else◌}
-use Rattle.std.specs.List.{flat_map, list_all}
+use Rattle.std.specs.List.{list_all}
 use Rattle.net_ir.specs.declared.design.Role.{Role}
 use Rattle.net_ir.specs.declared.design.Role.TheVariants.{Input, Output, Inner}
 use Rattle.net_ir.specs.declared.design.Var.{Var}
-use Rattle.net_ir.specs.declared.design.Target.{Target}
+use Rattle.net_ir.specs.declared.statement.Target.{Target}
+use Rattle.net_ir.specs.declared.statement.Arm.{Arm}
+use Rattle.net_ir.specs.declared.statement.Stmt.{Stmt}
+use Rattle.net_ir.specs.declared.statement.Stmt.TheFolds.{fold-Arm}
 use Rattle.net_ir.specs.declared.design.Trigger.{Trigger}
 use Rattle.net_ir.specs.declared.design.Driver.{Driver}
-use Rattle.net_ir.specs.declared.design.Driver.TheVariants.{Assign, Clocked}
-use Rattle.net_ir.specs.Drive.{target_var, var_list}
+use Rattle.net_ir.specs.declared.design.Driver.TheVariants as driver
+use Rattle.net_ir.specs.declared.design.Driver.TheVariants.{Assign, Comb, Clocked}
+use Rattle.net_ir.specs.Statement.{targets_of, targets_of_layer, arm_targets}
 use Rattle.net_ir.specs.Face.{is_inner}
 use Rattle.net_ir.specs.Marks.{is_clear}
+use Rattle.plain_run.specs.Plain.{named_by}
 
--- the variables that targets name
-abbrev pub named_by : List Target → List ℕ
-named_by targets = flat_map (λ t. var_list (target_var t)) targets
+-- the targets of the assignments in an arm
+abbrev pub targets_of_arm : Arm → List Target
+targets_of_arm = fold-Arm (List Target) (List Target) targets_of_layer arm_targets
+
+-- the variables that the targets of a statement name, and those of an arm
+abbrev pub named_in : Stmt → List ℕ
+named_in statement = named_by (targets_of statement)
+
+abbrev pub named_in_arm : Arm → List ℕ
+named_in_arm arm = named_by (targets_of_arm arm)
 
 -- whether a variable of this role is set from outside
 abbrev pub is_input : Role → Bool
@@ -36,10 +48,12 @@ is_clock vars read (Some x) = is_clock_if (slice_get vars x) (is_clear read x)
 abbrev pub are_clocks : List Var → List Bool → List Trigger → Bool
 are_clocks vars read triggers = list_all (λ (t : Trigger). is_clock vars read t.var) triggers
 
--- whether each event control of a driver does; a continuous assignment has none
+-- whether each event control of a driver does; only a clocked process has some
 abbrev pub has_clocks : List Var → List Bool → Driver → Bool
 has_clocks vars read (Assign target value place) = true
+has_clocks vars read (Comb body place) = true
 has_clocks vars read (Clocked triggers body place) = are_clocks vars read triggers
+has_clocks vars read (driver.Instance made) = true
 
 -- whether no port stands behind a variable that only the module sees, where one stands before these variables if `behind` says so
 abbrev pub ports_lead : Bool → List Var → Bool

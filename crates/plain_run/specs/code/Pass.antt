@@ -1,21 +1,21 @@
--- One pass over whole assignments, each taken once.
-use Rattle.std.specs.Prelude.{◌≡◌, ℕ, ◌<◌, List, [], ◌∷◌, length, None, Some, slice_index, slice_get, slice_set}
+-- One pass over assignments to whole variables, each taken once.
+use Rattle.std.specs.Prelude.{◌≡◌, ℕ, ◌<◌, List, [], ◌∷◌, length, Option, None, Some, slice_index, slice_get, slice_set}
 use Rattle.std.specs.Int.{bit_at}
 use Rattle.net_ir.specs.declared.design.Role.TheVariants.{Input, Output, Inner}
 use Rattle.net_ir.specs.declared.design.Var.{Var}
-use Rattle.net_ir.specs.declared.design.Target.{Target}
-use Rattle.net_ir.specs.declared.design.Target.TheVariants.{Of}
+use Rattle.net_ir.specs.declared.statement.Target.{Target}
 use Rattle.net_ir.specs.declared.design.Driver.{Driver}
-use Rattle.net_ir.specs.declared.design.Driver.TheVariants.{Assign, Clocked}
+use Rattle.net_ir.specs.declared.design.Driver.TheVariants as driver
+use Rattle.net_ir.specs.declared.design.Driver.TheVariants.{Assign, Comb, Clocked}
 use Rattle.bit_ops.specs.declared.value.Bits.{Bits}
 use Rattle.net_ir.specs.declared.design.Role.{Role}
 use Rattle.bit_ops.specs.Lists.{words}
 use Rattle.net_ir.specs.declared.design.Spec.{Spec}
-use Rattle.net_ir.specs.Value.{val, widths_of}
-use Rattle.net_ir.specs.Statement.{Write}
+use Rattle.net_ir.specs.Value.{val}
 use Rattle.net_ir.specs.Drive.{NoneHolds}
 use Rattle.net_ir.specs.Register.{registers_of, register_words}
 use Rattle.sv_base.specs.Meaning.{State}
+use Rattle.plain_run.specs.Plain.{whole_var}
 
 -- what a variable of this role has before any driver's turn, of the level that is set and the word that a register holds
 abbrev pub source_at : Role → Bits → Bits → Bits
@@ -35,34 +35,39 @@ sources_of (v ∷ vars) (input ∷ inputs) (h ∷ held) = source_of v input h �
 
 -- each bit that no register has is as at first, so that what is held of it is its initial value
 abbrev pub KeepsInitial : Spec → List ℕ → Type 0
-KeepsInitial spec held = (x k : ℕ) (v : Var) → slice_get spec.vars x ≡ Some v → k < v.width → NoneHolds (widths_of spec.vars) spec.drivers x k → bit_at (slice_index held x) k ≡ bit_at v.init.word k
+KeepsInitial spec held = (x k : ℕ) (v : Var) → slice_get spec.vars x ≡ Some v → k < v.width → NoneHolds spec.vars spec.drivers x k → bit_at (slice_index held x) k ≡ bit_at v.init.word k
 
 -- the state with these levels of inputs, and these values held: a value for each variable stands in each list, of which the levels of
 -- inputs count, and the bits of registers
 abbrev pub state_of : Spec → List Bits → List Bits → State
 state_of spec inputs held = record { inputs = words inputs; registers = register_words (registers_of spec) (words held) }
 
--- a value of this width may be stored in the whole of the target
+-- a value of this width may be stored in the whole of that variable
+abbrev pub IsStorableAt : List ℕ → Option ℕ → ℕ → Type 0
+IsStorableAt ws None width = ⊥
+IsStorableAt ws (Some var) width = (var < length ws) × (width ≡ slice_index ws var)
+
+-- so in the whole of the target
 abbrev pub IsStorable : List ℕ → Target → ℕ → Type 0
-IsStorable ws (Of (Some var) name place) width = (var < length ws) × (width ≡ slice_index ws var)
-IsStorable ws (Of None name place) width = ⊥
+IsStorable ws target width = IsStorableAt ws (whole_var target) width
+
+-- the valuation after a word is stored in the whole of a variable, where there is one
+abbrev pub store_at : Option ℕ → ℕ → List ℕ → List ℕ
+store_at None word u = u
+store_at (Some var) word u = slice_set u var word
 
 -- the valuation after a word is stored in the whole of a target
 abbrev pub store : Target → ℕ → List ℕ → List ℕ
-store (Of (Some var) name place) word u = slice_set u var word
-store (Of None name place) word u = u
+store target word u = store_at (whole_var target) word u
 
 -- the valuation after a driver's turn
 abbrev pub effect : List ℕ → Driver → List ℕ → List ℕ
 effect ws (Assign target value at) u = store target (val ws u value) u
+effect ws (Comb body at) u = u
 effect ws (Clocked triggers body at) u = u
+effect ws (driver.Instance made) u = u
 
 -- the valuation after each of the drivers in turn
 abbrev pub run : List ℕ → List Driver → List ℕ → List ℕ
 run ws [] u = u
 run ws (d ∷ drivers) u = run ws drivers (effect ws d u)
-
--- the words after writes, each stored in the whole of its variable, the first of them first
-abbrev pub store_all : List Write → List ℕ → List ℕ
-store_all [] u = u
-store_all (w ∷ writes) u = store_all writes (slice_set u w.var w.word)

@@ -3,14 +3,13 @@
 use Rattle.std.specs.Prelude.{ℕ, Bool, true, false, not, ◌&&◌, List, [], Option, None, Some, slice_get}
 use Rattle.std.specs.List.{list_all}
 use Rattle.net_ir.specs.declared.design.Var.{Var}
-use Rattle.net_ir.specs.declared.design.Target.{Target}
 use Rattle.net_ir.specs.declared.design.Driver.{Driver}
-use Rattle.net_ir.specs.declared.design.Driver.TheVariants.{Assign, Clocked}
+use Rattle.net_ir.specs.declared.design.Driver.TheVariants as driver
+use Rattle.net_ir.specs.declared.design.Driver.TheVariants.{Assign, Comb, Clocked}
 use Rattle.net_ir.specs.Value.{reads_of}
-use Rattle.net_ir.specs.Statement.{targets_of}
-use Rattle.net_ir.specs.Drive.{target_var, var_list}
+use Rattle.net_ir.specs.Target.{target_vars}
 use Rattle.net_ir.specs.Marks.{mark_all, is_clear}
-use Rattle.plain_run.specs.code.Marks.{named_by, is_input}
+use Rattle.plain_run.specs.code.Marks.{is_input, named_in}
 
 -- whether a variable, if it is there, is set from outside
 abbrev pub input_if : Option Var → Bool
@@ -21,50 +20,56 @@ input_if (Some v) = is_input v.role
 abbrev pub is_free : List Var → List Bool → ℕ → Bool
 is_free vars marks x = is_clear marks x && not (input_if (slice_get vars x))
 
--- whether a target names such a variable
-abbrev pub is_free_at : List Var → List Bool → Option ℕ → Bool
-is_free_at vars marks None = false
-is_free_at vars marks (Some x) = is_free vars marks x
-
--- whether each of the targets does
-abbrev pub are_free : List Var → List Bool → List Target → Bool
-are_free vars marks targets = list_all (λ t. is_free_at vars marks (target_var t)) targets
+-- whether each of these variables is such a one
+abbrev pub are_free : List Var → List Bool → List ℕ → Bool
+are_free vars marks names = list_all (λ x. is_free vars marks x) names
 
 -- whether none of the variables that are read has a mark
 abbrev pub are_clear : List Bool → List ℕ → Bool
 are_clear marks reads = list_all (λ x. is_clear marks x) reads
 
--- the variables that a driver writes
-abbrev pub written_by : Driver → List ℕ
-written_by (Assign target value at) = var_list (target_var target)
-written_by (Clocked triggers body at) = named_by (targets_of body)
+-- the variables that the targets of a driver name, but those that an instance's outputs are joined to
+abbrev pub names_of : Driver → List ℕ
+names_of (Assign target value place) = target_vars target
+names_of (Comb body place) = named_in body
+names_of (Clocked triggers body place) = named_in body
+names_of (driver.Instance made) = []
 
--- the variables that a driver gives at all times
-abbrev pub driven_by : Driver → List ℕ
-driven_by (Assign target value at) = var_list (target_var target)
-driven_by (Clocked triggers body at) = []
+-- those of the variables that a continuous assignment gives at all times
+abbrev pub given_by : Driver → List ℕ → List ℕ
+given_by (Assign target value place) names = names
+given_by (Comb body place) names = []
+given_by (Clocked triggers body place) names = []
+given_by (driver.Instance made) names = []
+
+-- whether a continuous assignment reads no variable with a mark
+abbrev pub is_settled : Driver → List Bool → Bool
+is_settled (Assign target value place) driven = are_clear driven (reads_of value)
+is_settled (Comb body place) driven = true
+is_settled (Clocked triggers body place) driven = true
+is_settled (driver.Instance made) driven = true
 
 -- whether a driver may stand before those that made the marks: its variables are free, and a continuous assignment reads
 -- nothing that it or they give at all times
 abbrev pub takes_turn : List Var → Driver → List Bool → List Bool → Bool
-takes_turn vars (Assign target value at) written driven = is_free_at vars written (target_var target) && are_clear (mark_all (var_list (target_var target)) driven) (reads_of value)
-takes_turn vars (Clocked triggers body at) written driven = are_free vars written (targets_of body)
+takes_turn vars d written driven = are_free vars written (names_of d) && is_settled d (mark_all (given_by d (names_of d)) driven)
 
 -- whether a variable, if it is there, is a net
 abbrev pub net_if : Option Var → Bool
 net_if None = false
 net_if (Some v) = v.wire
 
--- whether a name means no net
-abbrev pub names_no_net : List Var → Option ℕ → Bool
-names_no_net vars None = true
-names_no_net vars (Some x) = not (net_if (slice_get vars x))
+-- whether a variable is no net
+abbrev pub is_no_net : List Var → ℕ → Bool
+is_no_net vars x = not (net_if (slice_get vars x))
 
--- whether none of the targets names one
-abbrev pub name_no_nets : List Var → List Target → Bool
-name_no_nets vars targets = list_all (λ t. names_no_net vars (target_var t)) targets
+-- whether none of these variables is one
+abbrev pub are_no_nets : List Var → List ℕ → Bool
+are_no_nets vars names = list_all (λ x. is_no_net vars x) names
 
--- whether a driver is no clocked process that writes one
+-- whether a driver is no process that writes one
 abbrev pub writes_no_net : List Var → Driver → Bool
-writes_no_net vars (Assign target value at) = true
-writes_no_net vars (Clocked triggers body at) = name_no_nets vars (targets_of body)
+writes_no_net vars (Assign target value place) = true
+writes_no_net vars (Comb body place) = are_no_nets vars (named_in body)
+writes_no_net vars (Clocked triggers body place) = are_no_nets vars (named_in body)
+writes_no_net vars (driver.Instance made) = true

@@ -1,11 +1,12 @@
 use Rattle.std.proofs.Common.{◌≡◌, drop}
 use Rattle.bit_ops.specs.Lists.{words, widths}
+use Rattle.net_ir.specs.Value.{widths_of}
 use Rattle.plain_run.specs.code.Pass.{run}
 use Rattle.plain_run.proofs.evaluator.drive_all.Given as goal
 
 -- the rest of the drivers leaves what all of them leave
 abbrev pub invariant-loop-driver : goal.invariant-loop-driver
 invariant-loop-driver l = record {
-  same_widths : widths l.values ≡ widths l.fn.values;
-  same_words : run (widths l.fn.values) (drop l.driver-index l.drivers) (words l.values) ≡ run (widths l.fn.values) l.drivers (words l.fn.values);
+  same_widths : widths l.values ≡ widths_of l.vars;
+  same_words : run (widths_of l.vars) (drop l.driver-index l.drivers) (words l.values) ≡ run (widths_of l.vars) l.drivers (words l.fn.values);
 }

@@ -13,8 +13,10 @@ loop-arg-init t c =
 
 pub loop-arg-preserved : goal.loop-arg-preserved
 loop-arg-preserved t c =
-    all_more (λ x. is_clear c.args.marks.now x) reads_of c.as_slice-arg-items.result.now c.loop-arg.arg-index c.arg-item.result _ c.loop-arg-test.true c.arg-item.is (sym c.is_unread-in-loop-arg.ensures ∙ c.if-not-is_unread.false) c.loop-arg.invariant
+    all_more (λ x. is_clear c.args.marks.now x) reads_of c.as_slice-arg-items.result.now c.loop-arg.arg-index c.arg-item.result _
+    c.loop-arg-test.true c.arg-item.is (sym c.is_unread-in-loop-arg.ensures ∙ c.if-not-is_unread.false) c.loop-arg.invariant
 
 pub returns-then-not-is_unread : goal.returns-then-not-is_unread
 returns-then-not-is_unread t c =
-    all_fails (λ x. is_clear c.args.marks.now x) reads_of c.as_slice-arg-items.result.now c.loop-arg.arg-index c.arg-item.result _ c.loop-arg-test.true c.arg-item.is (sym c.is_unread-in-loop-arg.ensures ∙ c.if-not-is_unread.true) c.loop-arg.invariant
+    all_fails (λ x. is_clear c.args.marks.now x) reads_of c.as_slice-arg-items.result.now c.loop-arg.arg-index c.arg-item.result _
+    c.loop-arg-test.true c.arg-item.is (sym c.is_unread-in-loop-arg.ensures ∙ c.if-not-is_unread.true) c.loop-arg.invariant

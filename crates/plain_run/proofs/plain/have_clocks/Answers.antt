@@ -20,7 +20,8 @@ returns-then-not-has_clocks c =
     let fails : has_clocks vars read c.driver-item.result ≡ false =
     ap (λ m. has_clocks vars m c.driver-item.result) (sym c.deref.ensures.value) ∙ sym c.has_clocks.ensures ∙ c.if-not-has_clocks.true in
     clocks_decided c.args.spec.now read false c.in_ok-read.ensures
-    (each_fails (has_clocks vars read) c.as_slice-driver-items.result.now c.loop-driver.driver-index c.driver-item.result _ c.loop-driver-test.true c.driver-item.is fails c.loop-driver.invariant
+    (each_fails (has_clocks vars read) c.as_slice-driver-items.result.now c.loop-driver.driver-index c.driver-item.result _
+    c.loop-driver-test.true c.driver-item.is fails c.loop-driver.invariant
     ∙ as_read c.args.spec.now.vars vars c.args.spec.now.drivers c.as_slice-driver-items.result.now read c.as_slice-vars.ensures c.as_slice-driver-items.ensures)
 
 pub returns : goal.returns

@@ -11,11 +11,12 @@ use Rattle.plain_run.proofs.plain.write_no_nets.Goals as goal
 as_read : (vars vs : List Var) (drivers ds : List Driver) → vs ≡ vars → ds ≡ drivers → list_all (writes_no_net vs) ds ≡ list_all (writes_no_net vars) drivers
 as_read vars vs drivers ds same_vars same_drivers = ap (list_all (writes_no_net vs)) same_drivers ∙ ap (λ v. list_all (writes_no_net v) drivers) same_vars
 
-pub returns-then-not-writes_no_net : goal.returns-then-not-writes_no_net
-returns-then-not-writes_no_net c =
+pub returns-then-not-branch : goal.returns-then-not-branch
+returns-then-not-branch c =
     let vars = c.as_slice-vars.result.now in
     nets_decided c.args.spec.now.vars c.args.spec.now.drivers false
-    (each_fails (writes_no_net vars) c.as_slice-driver-items.result.now c.loop-driver.driver-index c.driver-item.result _ c.loop-driver-test.true c.driver-item.is (sym c.writes_no_net.ensures ∙ c.if-not-writes_no_net.true) c.loop-driver.invariant
+    (each_fails (writes_no_net vars) c.as_slice-driver-items.result.now c.loop-driver.driver-index c.driver-item.result _
+    c.loop-driver-test.true c.driver-item.is (sym c.in_ok-writes_no_net.ensures ∙ c.if-not-branch.true) c.loop-driver.invariant
     ∙ as_read c.args.spec.now.vars vars c.args.spec.now.drivers c.as_slice-driver-items.result.now c.as_slice-vars.ensures c.as_slice-driver-items.ensures)
 
 pub returns : goal.returns
