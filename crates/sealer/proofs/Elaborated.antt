@@ -3,6 +3,7 @@ use Rattle.std.proofs.Common.{◌≡◌, ℕ, Bool, true, false, List, [], refl,
 use Rattle.std.specs.Prelude.{Option, None, Some, Ok, Err, IsTrue}
 use Rattle.std.specs.List.{AllByRecursion}
 use Rattle.sv_base.specs.declared.refusal.Refusal.{Refusal}
+use Rattle.net_ir.specs.declared.design.Given.{Given}
 use Rattle.net_ir.specs.declared.design.Var.{Var}
 use Rattle.net_ir.specs.declared.design.Driver.{Driver}
 use Rattle.net_ir.specs.declared.design.Spec.{Spec}
@@ -48,22 +49,34 @@ bad_name m NoMemory is = tt
 pub initial_of : (m : Module) (vars : List Var) (drivers : List Driver) → IsElaborated m vars drivers → HaveInitialValues vars
 initial_of m vars drivers is = subst HaveInitialValues (sym is.vars_are) (initial_values m)
 
-pub whole_of : (m : Module) (vars : List Var) (drivers : List Driver) → IsElaborated m vars drivers → AllByRecursion (IsWhole (widths_of vars)) drivers
+pub whole_of : (m : Module) (vars : List Var) (drivers : List Driver) → IsElaborated m vars drivers → AllByRecursion (IsWhole vars) drivers
 whole_of m vars drivers is =
-    subst (λ v. AllByRecursion (IsWhole (widths_of v)) drivers) (sym is.vars_are)
-    (subst (λ d. AllByRecursion (IsWhole (widths_of (design_of m).vars)) d) (sym is.drivers_are) (whole_drivers m is.right))
+    subst (λ v. AllByRecursion (IsWhole v) drivers) (sym is.vars_are)
+    (subst (λ d. AllByRecursion (IsWhole (design_of m).vars) d) (sym is.drivers_are) (whole_drivers m is.right))
 
 -- a design by its parts
-abbrev pub spec_of : Module → List ℕ → List Var → List Driver → Spec
-spec_of m name vars drivers = record { «module» = name; place = m.name.place; vars = vars; drivers = drivers }
+abbrev pub spec_of : Module → List ℕ → List Given → List Var → List Driver → Spec
+spec_of m name params vars drivers = record { «module» = name; place = m.name.place; params = params; vars = vars; drivers = drivers }
 
-pub same_design : (m : Module) (name : List ℕ) (vars : List Var) (drivers : List Driver) → IsElaborated m vars drivers → name ≡ m.name.name → spec_of m name vars drivers ≡ design_of m
-same_design m name vars drivers is named =
-    ap (λ n. spec_of m n vars drivers) named ∙ ap (λ v. spec_of m m.name.name v drivers) is.vars_are ∙ ap (spec_of m m.name.name (design_of m).vars) is.drivers_are
+pub same_design : (m : Module) (name : List ℕ) (params : List Given) (vars : List Var) (drivers : List Driver) → IsElaborated m vars drivers →
+    name ≡ m.name.name → params ≡ [] → spec_of m name params vars drivers ≡ design_of m
+same_design m name params vars drivers is named none =
+    ap (λ n. spec_of m n params vars drivers) named
+    ∙ ap (λ ps. spec_of m m.name.name ps vars drivers) none
+    ∙ ap (λ v. spec_of m m.name.name [] v drivers) is.vars_are
+    ∙ ap (spec_of m m.name.name [] (design_of m).vars) is.drivers_are
 
-pub plain_is : (m : Module) (name : List ℕ) (vars : List Var) (drivers : List Driver) (plain : Bool) → IsElaborated m vars drivers → name ≡ m.name.name → plain ≡ true → IsTrue plain ↔ IsPlain (spec_of m name vars drivers) → IsPlain (design_of m)
-plain_is m name vars drivers plain is named taken decides = subst IsPlain (same_design m name vars drivers is named) (decides.0 taken)
+pub plain_is : (m : Module) (name : List ℕ) (params : List Given) (vars : List Var) (drivers : List Driver) (plain : Bool) → IsElaborated m vars drivers →
+    name ≡ m.name.name → params ≡ [] → plain ≡ true → IsTrue plain ↔ IsPlain (spec_of m name params vars drivers) → IsPlain (design_of m)
+plain_is m name params vars drivers plain is named none taken decides = subst IsPlain (same_design m name params vars drivers is named none) (decides.0 taken)
 
-pub not_plain_of : (m : Module) (name : List ℕ) (vars : List Var) (drivers : List Driver) (plain : Bool) (refusal : Refusal) → IsElaborated m vars drivers → name ≡ m.name.name → plain ≡ false → IsTrue plain ↔ IsPlain (spec_of m name vars drivers) → refusal ≡ not_plain → IsFlaw m refusal
-not_plain_of m name vars drivers plain refusal is named refused decides told_is =
-    inr (is.right, (λ holds. let holds_too : IsTrue plain = decides.1 (subst IsPlain (sym (same_design m name vars drivers is named)) holds) in cc), told_is)
+pub not_plain_of : (m : Module) (name : List ℕ) (params : List Given) (vars : List Var) (drivers : List Driver) (plain : Bool) (refusal : Refusal) →
+    IsElaborated m vars drivers → name ≡ m.name.name → params ≡ [] → plain ≡ false → IsTrue plain ↔ IsPlain (spec_of m name params vars drivers) →
+    refusal ≡ not_plain → IsFlaw m refusal
+not_plain_of m name params vars drivers plain refusal is named none refused decides told_is =
+    inr (
+      is.right,
+      (λ holds.
+          let holds_too : IsTrue plain = decides.1 (subst IsPlain (sym (same_design m name params vars drivers is named none)) holds) in cc),
+      told_is,
+    )

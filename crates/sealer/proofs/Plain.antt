@@ -21,12 +21,14 @@ use Rattle.net_ir.specs.declared.statement.Stmt as statement
 use Rattle.net_ir.specs.declared.statement.Stmt.TheOpen as open_layer
 use Rattle.net_ir.specs.declared.statement.Stmt.TheOpen.{Stmt-F}
 use Rattle.net_ir.specs.declared.statement.Stmt.TheVariants.{rolls-Block, rolls-Assign}
-use Rattle.net_ir.specs.declared.statement.Stmt.TheFolds.{every-Stmt, every_made-Stmt}
+use Rattle.net_ir.specs.declared.statement.Stmt.TheFolds.{every-Arm, every_made-Stmt}
 use Rattle.net_ir.specs.declared.design.Var.{Var}
-use Rattle.net_ir.specs.declared.design.Target.TheVariants.{Of}
+use Rattle.net_ir.specs.declared.statement.Arm.{Arm}
+use Rattle.net_ir.specs.declared.statement.Target.{Of}
+use Rattle.net_ir.specs.declared.statement.Target.TheVariants.{outs-Of}
 use Rattle.net_ir.specs.Value.{widths_of, operand_of, operand_of_layer, size}
 use Rattle.net_ir.specs.Lawful.{IsLawfulLayer, IsLawful}
-use Rattle.plain_run.specs.Plain.{IsWholeTo, IsWholeLayer, IsWhole, HaveInitialValues}
+use Rattle.plain_run.specs.Plain.{whole_var_layer, IsWholeAt, IsWholeTo, IsPlainLayer, IsPlainStmt, IsWhole, HaveInitialValues}
 use Rattle.sv_ast.specs.declared.expression.Id.{Id}
 use Rattle.plain_run.specs.declared.tree.Operator.{Operator}
 use Rattle.plain_run.specs.declared.tree.Operator.TheVariants.{And, Or, Xor}
@@ -233,7 +235,7 @@ bit_term names ws e bits used = has_bit e names ws bits used
 
 -- ---- assignments, statements and drivers
 
-whole_at : (names : List (List ℕ)) (ws : List ℕ) (target : Id) (value : Term) (o : Option ℕ) → AreBits names ws → number_of names target.name ≡ o → IsSome o → IsBit ws value → IsWholeTo ws (Of o target.name target.place) value
+whole_at : (names : List (List ℕ)) (ws : List ℕ) (target : Id) (value : Term) (o : Option ℕ) → AreBits names ws → number_of names target.name ≡ o → IsSome o → IsBit ws value → IsWholeAt ws o value
 whole_at names ws target value None bits is some bit = absurd (cc)
 whole_at names ws target value (Some k) bits is some bit =
     let there : k < length names = number_within names target.name k is in
@@ -245,47 +247,57 @@ whole_at names ws target value (Some k) bits is some bit =
     }
 
 whole_to : (names : List (List ℕ)) (ws : List ℕ) (target : Id) (e : Expression) → AreBits names ws → AllByRecursion (UsedIn names) (Uses target ∷ expression_names e) → IsWholeTo ws (target_of names target) (term_of names e)
-whole_to names ws target e bits used = whole_at names ws target (term_of names e) (number_of names target.name) bits refl used.0 (bit_term names ws e bits used.1)
+whole_to names ws target e bits used =
+    let value = term_of names e in
+    let o = number_of names target.name in
+    subst (λ y. IsWholeAt ws (whole_var_layer y) value) (sym (outs-Of o target.name target.place None))
+    (whole_at names ws target value o bits refl used.0 (bit_term names ws e bits used.1))
+
+-- an arm whose body is plain
+abbrev IsPlainArm : List Var → Arm → Type 0
+IsPlainArm vars = every-Arm (IsPlainLayer vars) (λ arm. ⊤)
 
 -- each statement of a list with what holds of it
-held : (Q : Stmt-F Stmt → Type 0) (parts : List Stmt) → AllByRecursion (every-Stmt Q) parts → List ((s : Stmt) × every-Stmt Q s)
-held Q [] all = []
-held Q (s ∷ parts) all = (s, all.0) ∷ held Q parts all.1
+held : (vars : List Var) (parts : List Stmt) → AllByRecursion (IsPlainStmt vars) parts → List ((s : Stmt) × IsPlainStmt vars s)
+held vars [] all = []
+held vars (s ∷ parts) all = (s, all.0) ∷ held vars parts all.1
 
-held_parts : (Q : Stmt-F Stmt → Type 0) (parts : List Stmt) (all : AllByRecursion (every-Stmt Q) parts) → map (λ (e : (s : Stmt) × every-Stmt Q s). e.0) (held Q parts all) ≡ parts
+held_parts : (vars : List Var) (parts : List Stmt) (all : AllByRecursion (IsPlainStmt vars) parts) → map (λ (e : (s : Stmt) × IsPlainStmt vars s). e.0) (held vars parts all) ≡ parts
 unfolding held
-held_parts Q [] all = refl
-held_parts Q (s ∷ parts) all = ap (λ ss. s ∷ ss) (held_parts Q parts all.1)
+held_parts vars [] all = refl
+held_parts vars (s ∷ parts) all = ap (λ ss. s ∷ ss) (held_parts vars parts all.1)
 
-every_block : (Q : Stmt-F Stmt → Type 0) (parts : List Stmt) → AllByRecursion (every-Stmt Q) parts → Q (open_layer.Block parts) → every-Stmt Q (statement.Block parts)
-every_block Q parts all here = subst (every-Stmt Q) (rolls-Block parts) (every_made-Stmt Q (open_layer.Block parts) (open_layer.Block (held Q parts all)) (ap (λ ss. open_layer.Block ss) (held_parts Q parts all)) here)
+every_block : (vars : List Var) (parts : List Stmt) → AllByRecursion (IsPlainStmt vars) parts → IsPlainStmt vars (statement.Block parts)
+every_block vars parts all =
+    subst (IsPlainStmt vars) (rolls-Block parts)
+    (every_made-Stmt (IsPlainLayer vars) (λ arm. ⊤) (open_layer.Block parts) (open_layer.Block (held vars parts all)) (ap (λ ss. open_layer.Block ss) (held_parts vars parts all)) tt)
 
-whole_statement : (names : List (List ℕ)) (ws : List ℕ) (a : Assignment) → AreBits names ws → AllByRecursion (UsedIn names) (assignment_names a) → every-Stmt (IsWholeLayer ws) (statement_of names a)
-whole_statement names ws a bits used =
+whole_statement : (names : List (List ℕ)) (vars : List Var) (a : Assignment) → AreBits names (widths_of vars) → AllByRecursion (UsedIn names) (assignment_names a) → IsPlainStmt vars (statement_of names a)
+whole_statement names vars a bits used =
     let target = target_of names a.target in
     let value = term_of names a.value in
-    subst (every-Stmt (IsWholeLayer ws)) (rolls-Assign false target value) (every_made-Stmt (IsWholeLayer ws) (open_layer.Assign false target value) (open_layer.Assign false target value) refl (refl, whole_to names ws a.target a.value bits used))
+    subst (IsPlainStmt vars) (rolls-Assign false target value)
+    (every_made-Stmt (IsPlainLayer vars) (λ arm. ⊤) (open_layer.Assign false target value) (open_layer.Assign false target value) refl (refl, whole_to names (widths_of vars) a.target a.value bits used))
 
-whole_statements : (names : List (List ℕ)) (ws : List ℕ) (assignments : List Assignment) → AreBits names ws → AllByRecursion (UsedIn names) (flat_map assignment_names assignments) → AllByRecursion (every-Stmt (IsWholeLayer ws)) (map (statement_of names) assignments)
-whole_statements names ws [] bits used = tt
-whole_statements names ws (a ∷ assignments) bits used = (
-  whole_statement names ws a bits (all_front (UsedIn names) (assignment_names a) (flat_map assignment_names assignments) used),
-  whole_statements names ws assignments bits (all_back (UsedIn names) (assignment_names a) (flat_map assignment_names assignments) used),
+whole_statements : (names : List (List ℕ)) (vars : List Var) (assignments : List Assignment) → AreBits names (widths_of vars) → AllByRecursion (UsedIn names) (flat_map assignment_names assignments) → AllByRecursion (IsPlainStmt vars) (map (statement_of names) assignments)
+whole_statements names vars [] bits used = tt
+whole_statements names vars (a ∷ assignments) bits used = (
+  whole_statement names vars a bits (all_front (UsedIn names) (assignment_names a) (flat_map assignment_names assignments) used),
+  whole_statements names vars assignments bits (all_back (UsedIn names) (assignment_names a) (flat_map assignment_names assignments) used),
 )
 
-whole_item : (names : List (List ℕ)) (ws : List ℕ) (x : Item) → AreBits names ws → AllByRecursion (UsedIn names) (item_names x) → AllByRecursion (IsWhole ws) (item_drivers names x)
-whole_item names ws (item.Assign a) bits used = (whole_to names ws a.target a.value bits used, tt)
-whole_item names ws (item.Declare name) bits used = tt
-whole_item names ws (item.Process p) bits used =
-    (every_block (IsWholeLayer ws) (map (statement_of names) p.body) (whole_statements names ws p.body bits used.1) tt, tt)
+whole_item : (names : List (List ℕ)) (vars : List Var) (x : Item) → AreBits names (widths_of vars) → AllByRecursion (UsedIn names) (item_names x) → AllByRecursion (IsWhole vars) (item_drivers names x)
+whole_item names vars (item.Assign a) bits used = (whole_to names (widths_of vars) a.target a.value bits used, tt)
+whole_item names vars (item.Declare name) bits used = tt
+whole_item names vars (item.Process p) bits used = (every_block vars (map (statement_of names) p.body) (whole_statements names vars p.body bits used.1), tt)
 
-whole_items : (names : List (List ℕ)) (ws : List ℕ) (items : List Item) → AreBits names ws → AllByRecursion (UsedIn names) (flat_map item_names items) → AllByRecursion (IsWhole ws) (flat_map (item_drivers names) items)
-whole_items names ws [] bits used = tt
-whole_items names ws (x ∷ items) bits used =
-    all_both (IsWhole ws) (item_drivers names x) (flat_map (item_drivers names) items)
-    (whole_item names ws x bits (all_front (UsedIn names) (item_names x) (flat_map item_names items) used))
-    (whole_items names ws items bits (all_back (UsedIn names) (item_names x) (flat_map item_names items) used))
+whole_items : (names : List (List ℕ)) (vars : List Var) (items : List Item) → AreBits names (widths_of vars) → AllByRecursion (UsedIn names) (flat_map item_names items) → AllByRecursion (IsWhole vars) (flat_map (item_drivers names) items)
+whole_items names vars [] bits used = tt
+whole_items names vars (x ∷ items) bits used =
+    all_both (IsWhole vars) (item_drivers names x) (flat_map (item_drivers names) items)
+    (whole_item names vars x bits (all_front (UsedIn names) (item_names x) (flat_map item_names items) used))
+    (whole_items names vars items bits (all_back (UsedIn names) (item_names x) (flat_map item_names items) used))
 
 -- the drivers of a module whose names are right
-pub whole_drivers : (m : Module) → first_bad_name [] (namings_of m) ≡ None → AllByRecursion (IsWhole (widths_of (design_of m).vars)) (design_of m).drivers
-whole_drivers m none = whole_items (names_of m) (widths_of (design_of m).vars) m.items (module_bits m) (items_used m none)
+pub whole_drivers : (m : Module) → first_bad_name [] (namings_of m) ≡ None → AllByRecursion (IsWhole (design_of m).vars) (design_of m).drivers
+whole_drivers m none = whole_items (names_of m) (design_of m).vars m.items (module_bits m) (items_used m none)

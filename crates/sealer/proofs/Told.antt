@@ -11,8 +11,8 @@ use Rattle.net_ir.specs.declared.term.Term.{Term, Read}
 use Rattle.net_ir.specs.declared.design.Role.{Role}
 use Rattle.net_ir.specs.declared.design.Role.TheVariants as role
 use Rattle.net_ir.specs.declared.design.Var.{Var}
-use Rattle.net_ir.specs.declared.design.Target.{Target}
-use Rattle.net_ir.specs.declared.design.Target.TheVariants.{Of}
+use Rattle.net_ir.specs.declared.statement.Target.{Target}
+use Rattle.net_ir.specs.declared.statement.Target.{Of}
 use Rattle.net_ir.specs.declared.statement.Stmt.{Stmt}
 use Rattle.net_ir.specs.declared.statement.Stmt as statement
 use Rattle.net_ir.specs.declared.design.Driver.{Driver}
@@ -182,9 +182,9 @@ none_in_expression e = (is_told e).nothing
 -- ---- assignments and statements
 
 -- the target that a used name makes is the one of the definition, where the name is declared
-target_by : (names more : List (List ℕ)) (name : Id) (o : Option ℕ) → number_of names name.name ≡ o → (ok_or o (refused_by UnknownName name) >>= λ number. Ok (Of (Some number) name.name name.place)) ≡ told (cond (is_some o) None (Some (refused_by UnknownName name))) (target_of (names ++ more) name)
+target_by : (names more : List (List ℕ)) (name : Id) (o : Option ℕ) → number_of names name.name ≡ o → (ok_or o (refused_by UnknownName name) >>= λ number. Ok (Of (Some number) name.name name.place None)) ≡ told (cond (is_some o) None (Some (refused_by UnknownName name))) (target_of (names ++ more) name)
 target_by names more name None is = refl
-target_by names more name (Some number) is = ap (λ o. told None (Of o name.name name.place)) (sym (number_stays names more name.name number is))
+target_by names more name (Some number) is = ap (λ o. told None (Of o name.name name.place None)) (sym (number_stays names more name.name number is))
 
 target_told : (names more : List (List ℕ)) (name : Id) → target_at names name ≡ told (first_bad_name names (Uses name ∷ [])) (target_of (names ++ more) name)
 unfolding target_at

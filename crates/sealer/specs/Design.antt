@@ -13,8 +13,7 @@ use Rattle.net_ir.specs.declared.term.Term.{Term, Read, Apply}
 use Rattle.net_ir.specs.declared.design.Role.{Role}
 use Rattle.net_ir.specs.declared.design.Role.TheVariants as role
 use Rattle.net_ir.specs.declared.design.Var.{Var}
-use Rattle.net_ir.specs.declared.design.Target.{Target}
-use Rattle.net_ir.specs.declared.design.Target.TheVariants.{Of}
+use Rattle.net_ir.specs.declared.statement.Target.{Target, Of}
 use Rattle.net_ir.specs.declared.statement.Stmt.{Stmt}
 use Rattle.net_ir.specs.declared.statement.Stmt as statement
 use Rattle.net_ir.specs.declared.design.Trigger.{Trigger}
@@ -98,7 +97,7 @@ abbrev pub term_of : List (List ℕ) → Expression → Term
 term_of names = fold-Expression Term (term_of_layer names)
 
 abbrev pub target_of : List (List ℕ) → Id → Target
-target_of names name = Of (number_of names name.name) name.name name.place
+target_of names name = Of (number_of names name.name) name.name name.place None
 
 -- the statement of an assignment in a process
 abbrev pub statement_of : List (List ℕ) → Assignment → Stmt
@@ -121,6 +120,7 @@ abbrev pub design_of : Module → Spec
 design_of m = record {
   «module» = m.name.name;
   place = m.name.place;
+  params = [];
   vars = map port_var m.ports ++ map inner_var (flat_map item_declares m.items);
   drivers = flat_map (item_drivers (names_of m)) m.items;
 }

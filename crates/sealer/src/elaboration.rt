@@ -33,6 +33,7 @@ pub fn elaborate(alloc: Global, tree: &Module) -> Result<Spec, Fault>
     let spec = Spec {
         module: Name::of(alloc, tree.name.name.bytes())?,
         place: tree.name.place,
+        params: Sequence::new(alloc),
         vars: Sequence::from_vec(vars),
         drivers: Sequence::from_vec(drivers),
     };
@@ -316,6 +317,7 @@ fn target(alloc: Global, scope: &Scope<'_>, name: &Id) -> Result<Target, Fault>
         var: Some(number),
         name: Name::of(alloc, name.name.bytes())?,
         place: name.place,
+        pos: None,
     })
 }
 

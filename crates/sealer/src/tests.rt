@@ -3,6 +3,7 @@
 use crate::front::{BuildFault, front};
 use bit_ops::Op;
 use net_ir::{Driver, Role, Spec, Stmt, Term, Trigger};
+use plain_run::evaluator::whole_var;
 use std::alloc::Global;
 use std::test::Fail;
 use sv_base::{Kind, Refusal};
@@ -36,9 +37,9 @@ fn is_xor(term: &Term, first: u32, second: u32) -> bool {
 fn is_assigned_xor(driver: &Driver, to: u32, of: (u32, u32)) -> bool {
     match driver {
         Driver::Assign { target, value, .. } => {
-            target.var() == Some(to) && is_xor(value, of.0, of.1)
+            whole_var(target) == Some(to) && is_xor(value, of.0, of.1)
         }
-        Driver::Clocked { .. } => false,
+        Driver::Comb { .. } | Driver::Clocked { .. } | Driver::Instance(_) => false,
     }
 }
 
@@ -73,7 +74,7 @@ fn is_sample(statement: &Stmt, want: (u32, u32)) -> bool {
             blocking: false,
             target,
             value,
-        } => target.var() == Some(want.0) && is_negation(value, want.1),
+        } => whole_var(target) == Some(want.0) && is_negation(value, want.1),
         _ => false,
     }
 }

@@ -10,8 +10,8 @@ use Rattle.net_ir.specs.declared.term.Term.{Term, Read}
 use Rattle.net_ir.specs.declared.design.Role.{Role}
 use Rattle.net_ir.specs.declared.design.Role.TheVariants as role
 use Rattle.net_ir.specs.declared.design.Var.{Var}
-use Rattle.net_ir.specs.declared.design.Target.{Target}
-use Rattle.net_ir.specs.declared.design.Target.TheVariants.{Of}
+use Rattle.net_ir.specs.declared.statement.Target.{Target}
+use Rattle.net_ir.specs.declared.statement.Target.{Of}
 use Rattle.net_ir.specs.declared.statement.Stmt.{Stmt}
 use Rattle.net_ir.specs.declared.statement.Stmt as statement
 use Rattle.net_ir.specs.declared.design.Trigger.{Trigger}
@@ -105,7 +105,7 @@ expression_at names = fold-Expression (Result Term Refusal) (expression_layer_at
 unfoldable pub target_at : List (List ℕ) → Id → Result Target Refusal
 target_at names name = do
   number ← number_at names name
-  Ok (Of (Some number) name.name name.place)
+  Ok (Of (Some number) name.name name.place None)
 
 -- the statements with that of one more assignment
 unfoldable pub statement_at : List (List ℕ) → List Stmt → Assignment → Result (List Stmt) Refusal

@@ -20,9 +20,9 @@ is_plain-requires-clause-whole c =
 
 pub returns-then-branch-clause-design : goal.returns-then-branch-clause-design
 returns-then-branch-clause-design c =
-    same_design c.args.tree.now c.in_ok-of.field-0 c.from_vec.result c.from_vec-2.result
+    same_design c.args.tree.now c.in_ok-of.field-0 c.new.result c.from_vec.result c.from_vec-2.result
     (elaborated c.args.tree.now c.in_ok-scope.field-0.scope.vars.items c.from_vec.result c.in_ok-scope.field-0.drivers.items c.from_vec-2.result c.in_ok-scope.ensures c.from_vec.ensures c.from_vec-2.ensures)
-    (c.in_ok-of.ensures ∙ c.bytes.ensures)
+    (c.in_ok-of.ensures ∙ c.bytes.ensures) c.new.ensures
 
 pub returns-then-branch-clause-names : goal.returns-then-branch-clause-names
 returns-then-branch-clause-names c =
@@ -32,12 +32,12 @@ returns-then-branch-clause-names c =
 
 pub returns-then-branch-clause-plain : goal.returns-then-branch-clause-plain
 returns-then-branch-clause-plain c =
-    plain_is c.args.tree.now c.in_ok-of.field-0 c.from_vec.result c.from_vec-2.result c.in_ok-is_plain.field-0
+    plain_is c.args.tree.now c.in_ok-of.field-0 c.new.result c.from_vec.result c.from_vec-2.result c.in_ok-is_plain.field-0
     (elaborated c.args.tree.now c.in_ok-scope.field-0.scope.vars.items c.from_vec.result c.in_ok-scope.field-0.drivers.items c.from_vec-2.result c.in_ok-scope.ensures c.from_vec.ensures c.from_vec-2.ensures)
-    (c.in_ok-of.ensures ∙ c.bytes.ensures) (search rules) c.in_ok-is_plain.ensures
+    (c.in_ok-of.ensures ∙ c.bytes.ensures) c.new.ensures (search rules) c.in_ok-is_plain.ensures
 
 pub returns-clause-refused : goal.returns-clause-refused
 returns-clause-refused c =
-    not_plain_of c.args.tree.now c.in_ok-of.field-0 c.from_vec.result c.from_vec-2.result c.in_ok-is_plain.field-0 c.in_ok-not_plain.field-0
+    not_plain_of c.args.tree.now c.in_ok-of.field-0 c.new.result c.from_vec.result c.from_vec-2.result c.in_ok-is_plain.field-0 c.in_ok-not_plain.field-0
     (elaborated c.args.tree.now c.in_ok-scope.field-0.scope.vars.items c.from_vec.result c.in_ok-scope.field-0.drivers.items c.from_vec-2.result c.in_ok-scope.ensures c.from_vec.ensures c.from_vec-2.ensures)
-    (c.in_ok-of.ensures ∙ c.bytes.ensures) (search rules) c.in_ok-is_plain.ensures c.in_ok-not_plain.ensures
+    (c.in_ok-of.ensures ∙ c.bytes.ensures) c.new.ensures (search rules) c.in_ok-is_plain.ensures c.in_ok-not_plain.ensures
