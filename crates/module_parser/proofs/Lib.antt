@@ -30,3 +30,4 @@ mod Turns
 mod Many
 mod Ports
 mod Generated
+mod Branches

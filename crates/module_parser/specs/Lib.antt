@@ -9,3 +9,4 @@ pub mod Readers
 pub mod Nests
 pub mod Parts
 pub mod Processes
+pub mod code

@@ -1,6 +1,5 @@
 //! Items of a module and generate constructs (23.2.4, clause 27).
 
-ghost use Rattle.std.specs.Prelude.{◌≡◌, [], ◌∷◌, IfOk};
 ghost use Rattle.expr_parser.specs.Input.{Gives};
 ghost use Rattle.module_parser.specs.Input.{many};
 ghost use Rattle.module_parser.specs.Nests.{Nests};
@@ -13,26 +12,17 @@ use crate::cursor::Cursor;
 use crate::declaration::{PARAMETER_WORDS, assignments, declaration, genvars, parameters};
 use crate::instance::instances;
 use crate::kept::kept;
-use crate::list::up_to;
+use crate::list::{single_item, up_to};
 use crate::process::{always, clocked, combinational};
 use crate::repetition::loop_header;
 use crate::statement::test;
-use crate::target::LEVELS;
 use expr_parser::ParseFault;
 use sqlite_items::Items;
-use std::alloc::{AllocError, Global};
+use std::alloc::Global;
 use sv_ast::{Block, Item, Loop};
 
 /// The words that begin a declaration.
 const DECLARING_WORDS: [&str; 6] = ["wire", "logic", "reg", "bit", "int", "integer"];
-
-fn single(alloc: Global, item: Item) -> Result<Items<Item>, AllocError>
-    ensures { IfOk result (λ items. items ≡ item ∷ []) }
-{
-    let mut items = Items::new(alloc);
-    items.push(item)?;
-    Ok(items)
-}
 
 /// The rules that hold items take the reader of those as a parameter, so that each is proved by itself.
 #[derive(Clone, Copy)]
@@ -56,12 +46,7 @@ impl<F: Fn(Global, &mut Cursor<'_>, usize) -> Result<Item, ParseFault>> Generate
         requires { Nests spec.item_to self.now.depth (F.pre self.now.item) (F.post self.now.item) }
         ensures { Gives (many (is_no_keyword end.now) (λ _. spec.item_to self.now.depth) tokens.old) result tokens.new }
     {
-        let found = up_to(
-            self.alloc,
-            tokens,
-            end,
-            |alloc, tokens| self.inner(alloc, tokens),
-        )?;
+        let found = up_to(self.alloc, tokens, end, self.depth, &self.item)?;
         Ok(Items::from_vec(found.into_vec()))
     }
 
@@ -82,11 +67,7 @@ impl<F: Fn(Global, &mut Cursor<'_>, usize) -> Result<Item, ParseFault>> Generate
         requires { Nests spec.item_to self.now.depth (F.pre self.now.item) (F.post self.now.item) }
         ensures { Gives (spec.labelled (spec.item_to self.now.depth) tokens.old) result tokens.new }
     {
-        let (label, items) = block_of(
-            self.alloc,
-            tokens,
-            |alloc, tokens| self.inner(alloc, tokens),
-        )?;
+        let (label, items) = block_of(self.alloc, tokens, self.depth, &self.item)?;
         Ok(Block { label, items })
     }
 
@@ -100,10 +81,8 @@ impl<F: Fn(Global, &mut Cursor<'_>, usize) -> Result<Item, ParseFault>> Generate
             self.labelled(tokens)
         } else {
             let item = self.inner(self.alloc, tokens)?;
-            Ok(Block {
-                label: None,
-                items: single(self.alloc, item)?,
-            })
+            let items = single_item(self.alloc, item)?;
+            Ok(Block { label: None, items })
         }
     }
 
@@ -225,7 +204,7 @@ impl<F: Fn(Global, &mut Cursor<'_>, usize) -> Result<Item, ParseFault>> Generate
 }
 
 /// An item with items inside one another to this depth.
-fn item_to(alloc: Global, tokens: &mut Cursor<'_>, depth: usize) -> Result<Item, ParseFault>
+pub fn item_to(alloc: Global, tokens: &mut Cursor<'_>, depth: usize) -> Result<Item, ParseFault>
     ensures { Gives (spec.item_to depth tokens.old) result tokens.new }
 {
     if depth == 0 {
@@ -237,12 +216,4 @@ fn item_to(alloc: Global, tokens: &mut Cursor<'_>, depth: usize) -> Result<Item,
         item: item_to,
     }
     .item_level(tokens)
-}
-
-/// An item of a module.
-#[tactic(auto, unfolding(crate::specs::Reading::item_of))]
-pub fn item_of(alloc: Global, tokens: &mut Cursor<'_>) -> Result<Item, ParseFault>
-    ensures { Gives (spec.item_of tokens.old) result tokens.new }
-{
-    item_to(alloc, tokens, LEVELS)
 }

@@ -6,15 +6,17 @@ ghost use Rattle.expr_parser.specs.Input.{Gives};
 ghost use Rattle.expr_parser.specs.Spelling.{is_mark};
 ghost use Rattle.module_parser.specs.Input.{take_one};
 ghost use Rattle.module_parser.specs.Reading as spec;
+ghost use Rattle.module_parser.specs.code.Steps as steps;
 ghost use Rattle.module_parser.specs.Words.{is_keyword_of, parameter_words};
 
 use crate::bracket::{end_label, parenthesised};
 use crate::cursor::Cursor;
 use crate::declaration::{PARAMETER_WORDS, value};
-use crate::item::item_of;
+use crate::item::item_to;
 use crate::kept::kept;
 use crate::list::{listed, up_to};
 use crate::shape::{port_shape, variable_shape};
+use crate::target::LEVELS;
 use expr_parser::{ParseFault, is_mark};
 use std::alloc::Global;
 use sv_ast::{Id, Item, Module, Param, PortDecl, Shape};
@@ -166,8 +168,8 @@ fn has_mark(tokens: &[Token]) -> bool
 fn body_items(alloc: Global, tokens: &mut Cursor<'_>) -> Result<Sequence<Item>, ParseFault>
     ensures { Gives (spec.body_items tokens.old) result tokens.new }
 {
-    let items = up_to(alloc, tokens, "endmodule", item_of)?;
-    tokens.expect_word(alloc, "endmodule")?;
+    let items = up_to(alloc, tokens, "endmodule", LEVELS, &item_to)?;
+    let (items, ()) = kept(items, tokens.expect_word(alloc, "endmodule"))?;
     Ok(items)
 }
 
@@ -182,22 +184,53 @@ fn body(alloc: Global, tokens: &mut Cursor<'_>) -> Result<(Sequence<Item>, bool)
     Ok((items, has_mark(&before[..taken])))
 }
 
+/// What stands before the items of a module.
+#[derive(Drop)]
+struct Head {
+    name: Id,
+    params: Sequence<Param>,
+    ports: Sequence<PortDecl>,
+}
+
+/// The parameters and ports of a header, with the `;` behind them.
+fn header_lists(
+    alloc: Global,
+    tokens: &mut Cursor<'_>,
+) -> Result<(Sequence<Param>, Sequence<PortDecl>), ParseFault>
+    ensures { Gives (steps.header_lists tokens.old) result tokens.new }
+{
+    let params = header_parameters(alloc, tokens)?;
+    let lists = kept(params, header_ports(alloc, tokens))?;
+    let (lists, ()) = kept(lists, tokens.expect(alloc, ";"))?;
+    Ok(lists)
+}
+
+fn module_head(alloc: Global, tokens: &mut Cursor<'_>) -> Result<Head, ParseFault>
+    ensures { Gives (steps.module_head tokens.old) result tokens.new }
+{
+    tokens.expect_word(alloc, "module")?;
+    let name = tokens.take_identifier(alloc)?;
+    let (name, (params, ports)) = kept(name, header_lists(alloc, tokens))?;
+    Ok(Head {
+        name,
+        params,
+        ports,
+    })
+}
+
 #[tactic(auto, unfolding(crate::specs::Reading::module_of))]
 fn module_of(alloc: Global, tokens: &mut Cursor<'_>) -> Result<Module, ParseFault>
     ensures { Gives (spec.module_of tokens.old) result tokens.new }
 {
-    tokens.expect_word(alloc, "module")?;
-    let name = tokens.take_identifier(alloc)?;
-    let params = header_parameters(alloc, tokens)?;
-    let ports = header_ports(alloc, tokens)?;
-    tokens.expect(alloc, ";")?;
-    let (items, marked) = body(alloc, tokens)?;
-    end_label(alloc, tokens, Some(&name))?;
+    let head = module_head(alloc, tokens)?;
+    let (head, (items, marked)) = kept(head, body(alloc, tokens))?;
+    let ended = end_label(alloc, tokens, Some(&head.name));
+    let ((head, items), ()) = kept((head, items), ended)?;
     Ok(Module {
-        name,
+        name: head.name,
         marked,
-        params,
-        ports,
+        params: head.params,
+        ports: head.ports,
         items,
     })
 }

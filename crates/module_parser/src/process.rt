@@ -1,18 +1,22 @@
 //! Processes and their event controls (9.2, 9.4.2).
 
-ghost use Rattle.std.specs.Prelude.{◌≡◌, [], ◌∷◌, codes, IfOk};
+ghost use Rattle.std.specs.Prelude.{◌≡◌, Option, IfOk};
+ghost use Rattle.sv_ast.specs.declared.expression.Id.{Id};
+ghost use Rattle.sv_ast.specs.declared.item.Edge.{Edge};
 ghost use Rattle.expr_parser.specs.Input.{Gives};
 ghost use Rattle.module_parser.specs.Grammar.{process_of};
 ghost use Rattle.module_parser.specs.Reading as spec;
+ghost use Rattle.module_parser.specs.code.Steps as steps;
 
 use crate::bracket::parenthesised;
 use crate::cursor::Cursor;
 use crate::kept::kept;
+use crate::list::single;
 use crate::statement::statement;
 use expr_parser::ParseFault;
 use std::alloc::{AllocError, Global};
-use sv_ast::{Edge, Id, Item, Stmt};
-use sv_base::Sequence;
+use sv_ast::{Edge, Item, Stmt};
+use sv_base::{Place, Sequence};
 
 const EDGES: [&str; 2] = ["posedge", "negedge"];
 
@@ -40,12 +44,13 @@ fn parenthesised_edge(alloc: Global, tokens: &mut Cursor<'_>) -> Result<Edge, Pa
     parenthesised(alloc, tokens, edge)
 }
 
-fn single(alloc: Global, edge: Edge) -> Result<Sequence<Edge>, AllocError>
-    ensures { IfOk result (λ edges. edges ≡ edge ∷ []) }
+/// The one edge that a clocked process waits for.
+fn edges(alloc: Global, tokens: &mut Cursor<'_>) -> Result<Sequence<Edge>, ParseFault>
+    ensures { Gives (steps.edges tokens.old) result tokens.new }
 {
-    let mut edges = Sequence::new(alloc);
-    edges.push(edge)?;
-    Ok(edges)
+    tokens.expect(alloc, "@")?;
+    let found = parenthesised_edge(alloc, tokens)?;
+    Ok(single(alloc, found)?)
 }
 
 #[tactic(auto, unfolding(crate::specs::Reading::clocked))]
@@ -53,9 +58,8 @@ pub fn clocked(alloc: Global, tokens: &mut Cursor<'_>) -> Result<Item, ParseFaul
     ensures { Gives (spec.clocked tokens.old) result tokens.new }
 {
     let place = tokens.take_word(alloc, "always_ff")?.place;
-    tokens.expect(alloc, "@")?;
-    let edges = single(alloc, parenthesised_edge(alloc, tokens)?)?;
-    let body = statement(alloc, tokens)?;
+    let edges = edges(alloc, tokens)?;
+    let (edges, body) = kept(edges, statement(alloc, tokens))?;
     Ok(Item::Clocked(place, edges, body))
 }
 
@@ -90,20 +94,22 @@ fn control(alloc: Global, tokens: &mut Cursor<'_>) -> Result<Option<Edge>, Parse
     }
 }
 
-fn process_of(
-    alloc: Global,
-    keyword: Id,
-    control: Option<Edge>,
-    body: Stmt,
-) -> Result<Item, AllocError>
-    ensures { IfOk result (λ item. item ≡ process_of keyword control body) }
+/// The edge of an event control as a list, where it has one.
+fn listed_edge(alloc: Global, control: Option<Edge>) -> Result<Option<Sequence<Edge>>, AllocError>
+    ensures { IfOk result (λ edges. edges ≡ steps.listed_edge control) }
 {
     match control {
-        None => Ok(Item::Comb(keyword.place, body)),
-        Some(edge) => {
-            let (body, edges) = kept(body, single(alloc, edge))?;
-            Ok(Item::Clocked(keyword.place, edges, body))
-        }
+        None => Ok(None),
+        Some(edge) => Ok(Some(single(alloc, edge)?)),
+    }
+}
+
+fn process_of(place: Place, edges: Option<Sequence<Edge>>, body: Stmt) -> Item
+    ensures { (keyword : Id) (control : Option Edge) → keyword.place ≡ place → edges ≡ steps.listed_edge control → result ≡ process_of keyword control body }
+{
+    match edges {
+        None => Item::Comb(place, body),
+        Some(edges) => Item::Clocked(place, edges, body),
     }
 }
 
@@ -111,9 +117,10 @@ fn process_of(
 pub fn always(alloc: Global, tokens: &mut Cursor<'_>) -> Result<Item, ParseFault>
     ensures { Gives (spec.always tokens.old) result tokens.new }
 {
-    let keyword = tokens.take_word(alloc, "always")?;
+    let place = tokens.take_word(alloc, "always")?.place;
     tokens.expect(alloc, "@")?;
     let found = control(alloc, tokens)?;
-    let (found, body) = kept(found, statement(alloc, tokens))?;
-    Ok(process_of(alloc, keyword, found, body)?)
+    let edges = listed_edge(alloc, found)?;
+    let (edges, body) = kept(edges, statement(alloc, tokens))?;
+    Ok(process_of(place, edges, body))
 }

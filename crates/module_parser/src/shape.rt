@@ -1,19 +1,31 @@
 //! What a declaration says of its names: the words of a type, a sign and a range (clause 6).
 
-ghost use Rattle.std.specs.Prelude.{◌≡◌, [], ◌∷◌, ◌++◌, codes, IfOk, Ok};
+ghost use Rattle.std.specs.Prelude.{◌≡◌, codes, IfOk};
 ghost use Rattle.expr_parser.specs.Input.{Gives};
 ghost use Rattle.expr_parser.specs.Spelling.{is_this};
 ghost use Rattle.module_parser.specs.Grammar.{net_words};
 ghost use Rattle.module_parser.specs.Input.{take_one};
 ghost use Rattle.module_parser.specs.Reading as spec;
+ghost use Rattle.module_parser.specs.code.Steps as steps;
 ghost use Rattle.module_parser.specs.Words.{is_keyword};
 
 use crate::cursor::Cursor;
 use crate::kept::kept;
+use crate::list::single;
 use expr_parser::ParseFault;
 use std::alloc::{AllocError, Global};
 use sv_ast::{Id, Range, Shape};
 use sv_base::Sequence;
+
+/// Two expressions with `:` between.
+fn bounds(alloc: Global, tokens: &mut Cursor<'_>) -> Result<Range, ParseFault>
+    ensures { Gives (steps.bounds tokens.old) result tokens.new }
+{
+    let high = tokens.expression(alloc)?;
+    let (high, ()) = kept(high, tokens.expect(alloc, ":"))?;
+    let (high, low) = kept(high, tokens.expression(alloc))?;
+    Ok(Range { high, low })
+}
 
 #[tactic(auto, unfolding(crate::specs::Reading::range))]
 fn range(alloc: Global, tokens: &mut Cursor<'_>) -> Result<Range, ParseFault>
@@ -21,12 +33,10 @@ fn range(alloc: Global, tokens: &mut Cursor<'_>) -> Result<Range, ParseFault>
 {
     let outer = tokens.enter();
     tokens.open(alloc, "[")?;
-    let high = tokens.expression(alloc)?;
-    let (high, ()) = kept(high, tokens.expect(alloc, ":"))?;
-    let bounds = kept(high, tokens.expression(alloc))?;
+    let bounds = bounds(alloc, tokens)?;
     tokens.leave(outer);
-    let ((high, low), ()) = kept(bounds, tokens.expect(alloc, "]"))?;
-    Ok(Range { high, low })
+    let (bounds, ()) = kept(bounds, tokens.expect(alloc, "]"))?;
+    Ok(bounds)
 }
 
 fn maybe_range(alloc: Global, tokens: &mut Cursor<'_>) -> Result<Option<Range>, ParseFault>
@@ -58,14 +68,6 @@ fn bare(alloc: Global, tokens: &mut Cursor<'_>, words: Sequence<Id>) -> Result<S
     let sign = sign_word(alloc, tokens)?;
     let range = maybe_range(alloc, tokens)?;
     Ok(Shape { words, sign, range })
-}
-
-fn single(alloc: Global, word: Id) -> Result<Sequence<Id>, AllocError>
-    ensures { IfOk result (λ words. words ≡ word ∷ []) }
-{
-    let mut words = Sequence::new(alloc);
-    words.push(word)?;
-    Ok(words)
 }
 
 #[tactic(auto, unfolding(crate::specs::Reading::vector_shape))]

@@ -6,6 +6,7 @@ ghost use Rattle.expr_parser.specs.Reading.{any};
 ghost use Rattle.module_parser.specs.Grammar.{is_empty, has_default, is_first_default};
 ghost use Rattle.module_parser.specs.Input.{comes};
 ghost use Rattle.module_parser.specs.Parts as parts;
+ghost use Rattle.module_parser.specs.code.Steps as steps;
 ghost use Rattle.module_parser.specs.Nests.{Nests};
 ghost use Rattle.module_parser.specs.Reading as spec;
 
@@ -19,11 +20,17 @@ use std::alloc::Global;
 use sv_ast::{CaseItem, Expr, Loop, Stmt};
 use sv_base::Sequence;
 
+fn expression(alloc: Global, tokens: &mut Cursor<'_>) -> Result<Expr, ParseFault>
+    ensures { Gives (any tokens.old) result tokens.new }
+{
+    tokens.expression(alloc)
+}
+
 /// An expression between `(` and `)`.
 pub fn test(alloc: Global, tokens: &mut Cursor<'_>) -> Result<Expr, ParseFault>
     ensures { Gives (spec.parenthesised any tokens.old) result tokens.new }
 {
-    bracket::parenthesised(alloc, tokens, |alloc, tokens| tokens.expression(alloc))
+    bracket::parenthesised(alloc, tokens, expression)
 }
 
 fn counted(alloc: Global, tokens: &mut Cursor<'_>) -> Result<Loop, ParseFault>
@@ -31,6 +38,15 @@ fn counted(alloc: Global, tokens: &mut Cursor<'_>) -> Result<Loop, ParseFault>
 {
     tokens.expect_word(alloc, "int")?;
     repetition::loop_header(alloc, tokens)
+}
+
+/// The labels of an item, with the `:` behind them.
+fn labels(alloc: Global, tokens: &mut Cursor<'_>) -> Result<Sequence<Expr>, ParseFault>
+    ensures { Gives (steps.labels tokens.old) result tokens.new }
+{
+    let labels = list::listed(alloc, tokens, expression)?;
+    let (labels, ()) = kept(labels, tokens.expect(alloc, ":"))?;
+    Ok(labels)
 }
 
 fn is_default(item: &CaseItem) -> bool
@@ -85,7 +101,8 @@ impl<F: Fn(Global, &mut Cursor<'_>, usize) -> Result<Stmt, ParseFault>> Statemen
         requires { Nests spec.statement_to self.now.depth (F.pre self.now.statement) (F.post self.now.statement) }
         ensures { Gives (spec.statement_to self.now.depth tokens.old) result tokens.new }
     {
-        Ok(Boxed::new(self.alloc, self.inner(self.alloc, tokens)?)?)
+        let found = self.inner(self.alloc, tokens)?;
+        Ok(Boxed::new(self.alloc, found)?)
     }
 
     #[tactic(auto, unfolding(crate::specs::Reading::block))]
@@ -93,11 +110,7 @@ impl<F: Fn(Global, &mut Cursor<'_>, usize) -> Result<Stmt, ParseFault>> Statemen
         requires { Nests spec.statement_to self.now.depth (F.pre self.now.statement) (F.post self.now.statement) }
         ensures { Gives (spec.block (spec.statement_to self.now.depth) tokens.old) result tokens.new }
     {
-        let (name, parts) = bracket::block_of(
-            self.alloc,
-            tokens,
-            |alloc, tokens| self.inner(alloc, tokens),
-        )?;
+        let (name, parts) = bracket::block_of(self.alloc, tokens, self.depth, &self.statement)?;
         Ok(Stmt::Block(name, parts))
     }
 
@@ -150,9 +163,8 @@ impl<F: Fn(Global, &mut Cursor<'_>, usize) -> Result<Stmt, ParseFault>> Statemen
         requires { Nests spec.statement_to self.now.depth (F.pre self.now.statement) (F.post self.now.statement) }
         ensures { Gives (spec.labelled_item (spec.statement_to self.now.depth) tokens.old) result tokens.new }
     {
-        let labels = list::listed(self.alloc, tokens, |alloc, tokens| tokens.expression(alloc))?;
-        tokens.expect(self.alloc, ":")?;
-        let body = self.inner(self.alloc, tokens)?;
+        let labels = labels(self.alloc, tokens)?;
+        let (labels, body) = kept(labels, self.inner(self.alloc, tokens))?;
         Ok(CaseItem { labels, body })
     }
 
@@ -172,8 +184,8 @@ impl<F: Fn(Global, &mut Cursor<'_>, usize) -> Result<Stmt, ParseFault>> Statemen
         requires { Nests spec.statement_to self.now.depth (F.pre self.now.statement) (F.post self.now.statement) }
         ensures { Gives (parts.case_items (spec.statement_to self.now.depth) tokens.old) result tokens.new }
     {
-        let mut found = Items::new(self.alloc);
-        found.push(self.case_item(tokens, &[])?)?;
+        let first = self.case_item(tokens, &[])?;
+        let mut found = list::single_item(self.alloc, first)?;
         'turn: for _turn in 0..tokens.len() {
             if !tokens.sees_no_word("endcase") {
                 return Ok(found);

@@ -4,6 +4,7 @@ ghost use Rattle.expr_parser.specs.Input.{Gives};
 ghost use Rattle.expr_parser.specs.Reading.{any};
 ghost use Rattle.module_parser.specs.Nests.{Nests};
 ghost use Rattle.module_parser.specs.Reading as spec;
+ghost use Rattle.module_parser.specs.code.Steps as steps;
 
 use crate::cursor::Cursor;
 use crate::kept::kept;
@@ -17,10 +18,13 @@ use sv_ast::{Expr, Id, Lval, Sel};
 /// nesting.
 pub const LEVELS: usize = NESTING_LIMIT as usize + 1;
 
-fn boxed_expression(alloc: Global, tokens: &mut Cursor<'_>) -> Result<Boxed<Expr>, ParseFault>
-    ensures { Gives (any tokens.old) result tokens.new }
+/// The second bound of a part, behind this sign.
+fn bound(alloc: Global, tokens: &mut Cursor<'_>, text: &str) -> Result<Boxed<Expr>, ParseFault>
+    ensures { Gives (steps.behind_sign text.now any tokens.old) result tokens.new }
 {
-    Ok(Boxed::new(alloc, tokens.expression(alloc)?)?)
+    tokens.expect(alloc, text)?;
+    let found = tokens.expression(alloc)?;
+    Ok(Boxed::new(alloc, found)?)
 }
 
 fn select_from(
@@ -33,16 +37,13 @@ fn select_from(
 {
     let first = Boxed::new(alloc, first)?;
     if tokens.sees(":") {
-        tokens.expect(alloc, ":")?;
-        let second = boxed_expression(alloc, tokens)?;
+        let (first, second) = kept(first, bound(alloc, tokens, ":"))?;
         Ok(Sel::Part(opens.place, first, second))
     } else if tokens.sees("+:") {
-        tokens.expect(alloc, "+:")?;
-        let second = boxed_expression(alloc, tokens)?;
+        let (first, second) = kept(first, bound(alloc, tokens, "+:"))?;
         Ok(Sel::Up(opens.place, first, second))
     } else if tokens.sees("-:") {
-        tokens.expect(alloc, "-:")?;
-        let second = boxed_expression(alloc, tokens)?;
+        let (first, second) = kept(first, bound(alloc, tokens, "-:"))?;
         Ok(Sel::Down(opens.place, first, second))
     } else {
         Ok(Sel::Bit(opens.place, first))
@@ -66,11 +67,12 @@ fn select(alloc: Global, tokens: &mut Cursor<'_>) -> Result<Sel, ParseFault>
 fn selects(alloc: Global, tokens: &mut Cursor<'_>) -> Result<Items<Sel>, ParseFault>
     ensures { Gives (spec.selects tokens.old) result tokens.new }
 {
-    let mut found = Items::new(alloc);
     if tokens.sees("[") {
-        found.push(select(alloc, tokens)?)?;
+        let found = select(alloc, tokens)?;
+        Ok(list::single_item(alloc, found)?)
+    } else {
+        Ok(Items::new(alloc))
     }
-    Ok(found)
 }
 
 #[tactic(auto, unfolding(crate::specs::Reading::named_target))]
@@ -111,7 +113,7 @@ impl<F: Fn(Global, &mut Cursor<'_>, usize) -> Result<Lval, ParseFault>> Targets<
             |alloc, tokens| self.inner(alloc, tokens),
         )?;
         tokens.leave(outer);
-        tokens.expect(self.alloc, "}")?;
+        let (found, ()) = kept(found, tokens.expect(self.alloc, "}"))?;
         Ok(Lval::List(place, Items::from_vec(found.into_vec())))
     }
 

@@ -1,0 +1,8 @@
+use Rattle.std.proofs.Common.{arith}
+use Rattle.std.proofs.lemmas.Grind.{common_steps}
+use Rattle.module_parser.specs.Reading.{generate_conditional}
+use Rattle.module_parser.proofs.item.GenerateItems.generate_conditional.Goals as goal
+
+pub returns : goal.returns
+unfolding generate_conditional
+returns g c = grind (arith, common_steps)
