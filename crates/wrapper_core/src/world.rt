@@ -3,6 +3,7 @@
 ghost use Rattle.std.specs.Prelude.{◌≡◌, ◌<◌, ℕ, true, false, IfOk, Some, [], ◌∷◌, length, map, take, drop, replicate, slice_get, slice_set};
 ghost use Rattle.bit_ops.specs.Lists.{words, widths};
 ghost use Rattle.code_isa.specs.Faces.{input_widths, output_widths, clock_count, input_count, output_count};
+ghost use Rattle.code_isa.specs.Checks.{IsChecked};
 ghost use Rattle.code_isa.specs.Slots.{first_register, first_kid_output};
 ghost use Rattle.code_isa.specs.Tree.{words_at};
 ghost use Rattle.wrapper_core.specs.Snapshot.{Calm, with_held, with_visited};
@@ -17,7 +18,7 @@ use crate::making::{add_shown, buffers_of, wrap_all};
 use crate::sampling::Sampling;
 use crate::wrapped::Wrapped;
 use bit_ops::Bits;
-use code_isa::{Checked, first_instruction};
+use code_isa::{Checked, Machine, first_instruction};
 use model_stage::Child;
 use std::alloc::{AllocError, Global};
 use std::rc::Rc;
@@ -107,6 +108,14 @@ impl<C: Child> World<C> {
             .copy_from_slice(self.levels.as_slice());
         self.levels.as_mut_slice().copy_from_slice(levels);
         self.striking = true;
+    }
+
+    /// The machine, which is a checked one.
+    pub fn machine(&self) -> &Machine
+        ensures same { result.now ≡ (moment_of self.now).code }
+        ensures checked { IsChecked (moment_of self.now).code }
+    {
+        self.block.code.as_ref().machine()
     }
 
     /// How many children there are.
