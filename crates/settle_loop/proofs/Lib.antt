@@ -1,0 +1,9 @@
+pub mod Marks
+pub mod Registers
+pub mod Kept
+pub mod Visiting
+pub mod Below
+pub mod Ending
+pub mod Finals
+pub mod Sweeping
+pub mod Scheduling
