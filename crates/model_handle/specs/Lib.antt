@@ -1,0 +1,4 @@
+pub mod Models
+pub mod Striking
+pub mod Known
+pub mod Slots
