@@ -1,0 +1,9 @@
+use Rattle.std.proofs.Common.{◌≡◌, ◌-◌}
+use Rattle.std.specs.Int.{w32}
+use Rattle.sealed_library.specs.Fields.{number, items_at}
+use Rattle.sealed_library.proofs.Loops.{with_front}
+use Rattle.sealed_library.proofs.reading.clocks_at.Given as goal
+
+-- what is read and what is still read make all
+abbrev pub invariant-loop : goal.invariant-loop
+invariant-loop l = with_front l.items (items_at (number w32).read (l.count - l.counter) l.rest) ≡ items_at (number w32).read l.count l.bytes

@@ -1,0 +1,23 @@
+use Rattle.std.proofs.Common.{map}
+use Rattle.std.proofs.lemmas.Result.{err_from_is_err_and}
+use Rattle.sealed_library.specs.Fields.{items_at}
+use Rattle.sealed_library.specs.Version1.{instruction_field, instruction_fields}
+use Rattle.sealed_library.proofs.Loops.{goes_on_seen, ends, is_done}
+use Rattle.sealed_library.proofs.reading.each_instruction_at.Goals as goal
+
+pub returns-in_err-item : goal.returns-in_err-item
+returns-in_err-item c =
+    let p = err_from_is_err_and c.from_residual.result c.from_residual.ensures.1 in
+    rw (p.1, p.2) (ends c.in_err-item.field-0.0 instruction_field (map instruction_fields c.loop.items) c.args.count c.loop.counter c.loop.rest.now
+    (items_at instruction_field.read c.args.count c.args.bytes.now) c.loop-test.true c.in_err-item.ensures c.loop.invariant)
+
+pub loop-preserved : goal.loop-preserved
+loop-preserved c =
+    rw c.in_ok-push.ensures.ok
+    (goes_on_seen instruction_field instruction_fields c.loop.items c.args.count c.loop.counter c.loop.rest.now c.in_ok-item.item c.in_ok-item.behind.now
+    (items_at instruction_field.read c.args.count c.args.bytes.now) c.loop-test.true c.in_ok-item.ensures c.loop.invariant)
+
+pub returns : goal.returns
+returns c =
+    is_done instruction_field (map instruction_fields c.loop.items) c.args.count c.loop.counter c.loop.rest.now
+    (items_at instruction_field.read c.args.count c.args.bytes.now) c.loop-test.false c.loop.invariant
