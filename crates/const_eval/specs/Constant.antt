@@ -1,12 +1,13 @@
 -- The value of a constant expression.
-use Rattle.std.specs.Prelude.{◌≡◌, ℕ, true, false, option_map, Ok, Err}
+use Rattle.std.specs.Prelude.{◌≡◌, ℕ, true, false, option_map, Some, Ok, Err}
+use Rattle.bit_ops.specs.declared.value.Bits.{Bits}
 use Rattle.sv_ast.specs.declared.expression.Expr.{Expr}
 use Rattle.const_eval.specs.declared.env.Const.{Const}
 use Rattle.const_eval.specs.declared.env.Bound.{Bound}
 use Rattle.const_eval.specs.declared.env.Bound.TheVariants.{Constant, Variable}
 use Rattle.const_eval.specs.declared.env.Env.{Env}
 use Rattle.const_eval.specs.Env.{bound_of}
-use Rattle.const_eval.specs.Meaning.{own}
+use Rattle.const_eval.specs.Meaning.{own, assigned}
 use Rattle.const_eval.specs.Selects.{Named}
 use Rattle.const_eval.specs.Expressions.{Names, Judged, meaning_of}
 
@@ -35,3 +36,8 @@ constant_of env e = meaning_of (names_of env) true e
 abbrev pub IsConstant : Judged → Const → Type 0
 IsConstant (Ok m) c = (c.value.width ≡ m.size) × (c.signed ≡ m.signed) × (c.value.word ≡ own m)
 IsConstant (Err refusal) c = ⊥
+
+-- bits are the value that an expression that is not refused has where it is assigned to so many of them
+abbrev pub IsAssigned : ℕ → Judged → Bits → Type 0
+IsAssigned width (Ok m) bits = (bits.width ≡ width) × (bits.word ≡ assigned (Some width) false m)
+IsAssigned width (Err refusal) bits = ⊥

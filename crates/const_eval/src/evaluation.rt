@@ -1,12 +1,14 @@
 //! The call of this crate.
 
 ghost use Rattle.std.specs.Prelude.{◌≡◌, IfOk, IfErr, Err};
-ghost use Rattle.const_eval.specs.Constant.{constant_of, IsConstant};
+ghost use Rattle.bit_ops.specs.Width.{IsWidth};
+ghost use Rattle.const_eval.specs.Constant.{constant_of, IsConstant, IsAssigned};
 ghost use Rattle.sv_base.specs.Faults.{IfRefused};
 
 use crate::env::{Const, Env};
 use crate::fault::ConstFault;
 use crate::measure::measure;
+use bit_ops::Bits;
 use std::alloc::Global;
 use sv_ast::Expr;
 
@@ -24,4 +26,16 @@ pub fn constant(alloc: Global, e: &Expr, env: &Env) -> Result<Const, ConstFault>
         value: measured.own(),
         signed: measured.signed,
     })
+}
+
+/// The value of a constant expression as it is assigned to so many bits: in the greater of this size and its own, by
+/// its own sign, cut to this size (10.7); or its first refusal, as `constant` has it. Takes time linear in the
+/// expression.
+pub fn assigned_constant(alloc: Global, e: &Expr, env: &Env, width: u32) -> Result<Bits, ConstFault>
+    requires { IsWidth width }
+    ensures value { IfOk result (IsAssigned width (constant_of env.now e.now)) }
+    ensures refused { IfErr result (IfRefused (λ refusal. constant_of env.now e.now ≡ Err refusal)) }
+{
+    let measured = measure(alloc, env, e)?;
+    Ok(measured.assigned(width))
 }

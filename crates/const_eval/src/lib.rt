@@ -23,7 +23,7 @@ mod taking;
 mod whole_number;
 
 pub use env::{Bound, Const, Env};
-pub use evaluation::constant;
+pub use evaluation::{assigned_constant, constant};
 pub use fault::ConstFault;
 pub use join::copies;
 pub use pending::{Change, Movement, Operation};

@@ -1,6 +1,7 @@
 //! What an expression is worth by itself, and what has a value by itself.
 
-ghost use Rattle.std.specs.Prelude.{◌≡◌};
+ghost use Rattle.std.specs.Prelude.{◌≡◌, Some, false};
+ghost use Rattle.bit_ops.specs.Width.{IsWidth};
 ghost use Rattle.const_eval.specs.Meaning as meaning;
 ghost use Rattle.const_eval.specs.code.Waiting.{value_of};
 ghost use Rattle.const_eval.specs.WholeNumbers.{integer_of};
@@ -19,6 +20,17 @@ impl Measured {
         ensures word { result.word ≡ value_of self.now.pending self.now.size self.now.signed }
     {
         evaluate(&self.pending, self.size, self.signed)
+    }
+
+    /// The value where it is assigned to so many bits.
+    pub fn assigned(&self, width: u32) -> Bits
+        requires { IsWidth width }
+        ensures width { result.width ≡ width }
+        ensures word { (m : meaning.Meaning) → Matches self.now m → result.word ≡ meaning.assigned (Some width) false m }
+    {
+        let size = self.size.max(width);
+        let value = evaluate(&self.pending, size, self.signed);
+        Bits::truncated(width, value.word)
     }
 
     /// The whole number that the value by itself stands for.

@@ -1,5 +1,5 @@
 use bit_ops::{Bits, MAX_WIDTH, Word};
-use const_eval::{Bound, Const, ConstFault, Env, WholeNumber, constant};
+use const_eval::{Bound, Const, ConstFault, Env, WholeNumber, assigned_constant, constant};
 use expr_parser::{ParseFault, parse_expr};
 use std::alloc::{AllocError, Global};
 use std::process::Abort;
@@ -228,6 +228,30 @@ const PARTS_AND_FUNCTIONS: [(&str, &str); 35] = [
     ("$clog2(v)", "NotConstant v"),
 ];
 
+/// Expressions that are assigned to so many bits: each with the width, and the value in hexadecimal or the refusal.
+const ASSIGNED: [(&str, u32, &str); 20] = [
+    ("4'd15 + 4'd1", 8, "10"),
+    ("4'd15 + 4'd1", 4, "0"),
+    ("{4'd15 + 4'd1}", 8, "0"),
+    ("(4'd15 + 4'd1) >> 1", 8, "8"),
+    ("-1", 8, "ff"),
+    ("-5 / 2", 4, "e"),
+    ("4'sb1000", 8, "f8"),
+    ("4'b1000", 8, "8"),
+    ("4'sb1111 + 4'd0", 8, "f"),
+    ("4'sd7 + 4'sd1", 5, "8"),
+    ("4'sd7 + 4'sd1", 8, "8"),
+    ("~4'd0", 8, "ff"),
+    ("'1", 9, "1ff"),
+    ("'0", 9, "0"),
+    ("8'hff", 4, "f"),
+    ("64'hffff_ffff_ffff_ffff", 1, "1"),
+    ("64'hffff_ffff_ffff_ffff", 64, "ffffffffffffffff"),
+    ("S", 8, "f8"),
+    ("v", 8, "NotConstant v"),
+    ("zz + v", 1, "UnknownName zz"),
+];
+
 /// Constants: each with its name, width, word and sign, and the lowest position of its range.
 const CONSTANTS: [(&str, u32, Word, bool, u32); 6] = [
     ("P", 3, 5, false, 0),
@@ -323,6 +347,23 @@ fn outcome(rt: &impl Abort, alloc: Global, text: &str) -> Result<String, Fail> {
     shown(alloc, text, &env)
 }
 
+/// What an expression is where it is assigned to so many bits, as a row says it.
+fn assigned(rt: &impl Abort, alloc: Global, text: &str, width: u32) -> Result<String, Fail> {
+    assert!(rt; width >= 1 && width <= MAX_WIDTH);
+    let env = names(rt, alloc)?;
+    let tokens = tokens_of(alloc, text)?;
+    let tree = tree_of(alloc, &tokens)?;
+    match assigned_constant(alloc, &tree, &env, width) {
+        Ok(bits) => {
+            assert_eq!(rt; bits.width, width, "{text:?}");
+            let word = bits.word;
+            Ok(format!(in alloc; "{word:x}")?)
+        }
+        Err(ConstFault::Refused(refusal)) => Ok(show_refusal(alloc, &refusal)?),
+        Err(ConstFault::NoMemory) => Err(AllocError)?,
+    }
+}
+
 fn each_is_told(rt: &impl Abort, alloc: Global, rows: &[(&str, &str)]) -> Result<(), Fail> {
     for (text, expected) in rows {
         let found = outcome(rt, alloc, *text)?;
@@ -354,6 +395,15 @@ fn powers_and_choices(rt: HostRuntime) -> Result<(), Fail> {
 #[test]
 fn parts_and_functions(rt: HostRuntime) -> Result<(), Fail> {
     each_is_told(&rt, rt.alloc(), &PARTS_AND_FUNCTIONS)
+}
+
+#[test]
+fn assigned_values(rt: HostRuntime) -> Result<(), Fail> {
+    for (text, width, expected) in ASSIGNED {
+        let found = assigned(&rt, rt.alloc(), text, width)?;
+        assert_eq!(rt; found.as_str(), expected, "{text:?}");
+    }
+    Ok(())
 }
 
 /// `P` stands for a net, then for what it stood for before, and then for nothing.
