@@ -1,6 +1,6 @@
 -- The term that is assigned to a target has the assigned value.
-use Rattle.std.proofs.Common.{◌≡◌, ℕ, ◌+◌, ◌%◌, ◌^◌, ◌≤◌, ◌<◌, Bool, true, false, not, ◌&&◌, ◌==◌, max, List, Option, None, Some, Result, Ok, Err, if◌then◌else◌, refl, sym, ◌∙◌, ap, subst, arith}
-use Rattle.std.specs.Prelude.{unwrap_or, IfSome, ◌∷◌, []}
+use Rattle.std.proofs.Common.{◌≡◌, ℕ, ◌+◌, ◌%◌, ◌^◌, ◌≤◌, ◌<◌, Bool, true, false, not, ◌&&◌, ◌==◌, max, List, Option, None, Some, if◌then◌else◌, refl, sym, ◌∙◌, ap, subst, arith}
+use Rattle.std.specs.Prelude.{IfSome}
 use Rattle.std.proofs.Math.Nat.{mod-eq_of_lt}
 use Rattle.bit_ops.specs.declared.value.TheConstants.{MAX_WIDTH}
 use Rattle.bit_ops.specs.declared.operation.Op.TheVariants as op
@@ -11,9 +11,9 @@ use Rattle.net_ir.specs.Value.{AreWordsOf}
 use Rattle.net_ir.specs.Terms.{Has, has_one}
 use Rattle.const_eval.specs.Meaning.{Meaning, assigned, assigned_size}
 use Rattle.width_rules.specs.declared.measured.Measured.{Measured}
-use Rattle.width_rules.specs.code.Building.{one_of, cut_to}
-use Rattle.width_rules.specs.code.Waiting.{term_in}
-use Rattle.width_rules.specs.code.Assigning.{context_size, assigned_term}
+use Rattle.width_rules.specs.Building.{one_of, cut_to}
+use Rattle.width_rules.specs.Waiting.{term_in}
+use Rattle.width_rules.specs.Assigning.{assigned_term}
 use Rattle.width_rules.specs.code.Standing.{Stands}
 use Rattle.width_rules.proofs.Standings.{ValuesFit, small, same_test}
 

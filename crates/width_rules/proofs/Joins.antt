@@ -1,7 +1,7 @@
 -- Parts that are joined, and copies.
-use Rattle.std.proofs.Common.{◌≡◌, ℕ, zero, suc, ◌+◌, ◌*◌, ◌%◌, ◌^◌, ◌≤◌, ◌<◌, Bool, true, false, List, [], ◌∷◌, ◌++◌, Ok, refl, sym, ◌∙◌, ap, subst, arith}
+use Rattle.std.proofs.Common.{◌≡◌, ℕ, zero, suc, ◌+◌, ◌*◌, ◌%◌, ◌^◌, ◌≤◌, ◌<◌, true, false, List, [], ◌∷◌, ◌++◌, Ok, refl, sym, ◌∙◌, ap, subst, arith}
 use Rattle.std.proofs.lemmas.Nat.{pow-add, pow_pos}
-use Rattle.std.proofs.lemmas.Bool.{ne_eqb, lt-ltb, le-ltb}
+use Rattle.std.proofs.lemmas.Bool.{ne_eqb, le-ltb}
 use Rattle.std.proofs.Math.Nat.{mod-eq_of_lt, mul-le-mul_right}
 use Rattle.std.proofs.Math.Pow.{pow-lt}
 use Rattle.std.proofs.lemmas.Bool.Decides.{nat_tests}
@@ -10,7 +10,7 @@ use Rattle.bit_ops.specs.declared.value.TheConstants.{MAX_WIDTH}
 use Rattle.bit_ops.specs.declared.operation.Op.TheVariants as op
 use Rattle.bit_ops.specs.declared.value.Bits.{Bits}
 use Rattle.bit_ops.specs.Width.{IsWidth}
-use Rattle.bit_ops.specs.Meaning.{concat_of, mul_of}
+use Rattle.bit_ops.specs.Meaning.{concat_of}
 use Rattle.sv_base.specs.declared.refusal.Place.{Place}
 use Rattle.net_ir.specs.declared.term.Term.{Term, Const}
 use Rattle.net_ir.specs.Value.{AreWordsOf}
@@ -22,9 +22,9 @@ use Rattle.const_eval.specs.Expressions as spec
 use Rattle.const_eval.specs.code.Agreeing.{Agrees}
 use Rattle.const_eval.proofs.Joining.{total_more, joined_more}
 use Rattle.width_rules.specs.declared.measured.Measured.{Measured}
-use Rattle.width_rules.specs.declared.joined.Joined.TheVariants.{Nothing, Whole}
-use Rattle.width_rules.specs.code.Building.{two_of, extended_to}
-use Rattle.width_rules.specs.code.Waiting.{own_term}
+use Rattle.width_rules.specs.declared.joined.Joined.TheVariants.{Whole}
+use Rattle.width_rules.specs.Building.{two_of, extended_to}
+use Rattle.width_rules.specs.Waiting.{own_term}
 use Rattle.width_rules.specs.code.Standing.{Stands, IsJoined}
 use Rattle.width_rules.proofs.Standings.{ValuesFit, WordsOfSigned, small, own_has, extended_has}
 
@@ -88,7 +88,7 @@ copies_product (suc count) w a = omega (arith, ap (λ p. p * 2 ^ w) (copies_prod
 below_product : (x a p q : ℕ) → x < p → a < q → x * q + a < p * q
 below_product x a p q h k = omega (arith, mul-le-mul_right q h, k)
 
-copies_small : (count w a : ℕ) → a < 2 ^ w → copies count w a < 2 ^ (count * w)
+pub copies_small : (count w a : ℕ) → a < 2 ^ w → copies count w a < 2 ^ (count * w)
 copies_small zero w a h = pow_pos (0 * w)
 copies_small (suc count) w a h =
     let wide : suc count * w ≡ count * w + w = omega arith in
@@ -111,7 +111,7 @@ repetition_has law word ws u count w t x ones words wide some most h ones_wide o
           (subst (λ k. Has ws u (Const ones) k (copies count w 1)) ones_wide (subst (λ y. Has ws u (Const ones) ones.width y) ones_word (has_const ws u ones)))),
     )
 
-one_fits : (w : ℕ) → 1 ≤ w → 1 < 2 ^ w
+pub one_fits : (w : ℕ) → 1 ≤ w → 1 < 2 ^ w
 one_fits w wide = pow-lt {i = 0} {j = w} wide
 
 no_product : (k w : ℕ) → 1 ≤ k → 1 ≤ w → k * w ≡ 0 → ⊥

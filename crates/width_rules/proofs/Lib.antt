@@ -6,7 +6,14 @@ pub mod Names
 pub mod Takes
 pub mod Constants
 pub mod Literals
-pub mod Parts
-pub mod Opened
 pub mod Assigned
+pub mod Meant
+pub mod Valued
+pub mod Operated
+pub mod Picked
+pub mod Copied
+pub mod Stood
+pub mod Weights
+pub mod Weighed
 pub mod Sizings
+pub mod Opened

@@ -1,5 +1,5 @@
 -- Numbers and fills.
-use Rattle.std.proofs.Common.{◌≡◌, ℕ, suc, ◌+◌, ◌-◌, ◌*◌, ◌^◌, ◌≤◌, ◌<◌, Bool, true, false, List, Result, Ok, Err, Option, None, Some, ℤ, pos, negsuc, ◌-ℤ◌, if◌then◌else◌, refl, sym, ◌∙◌, ap, subst, arith}
+use Rattle.std.proofs.Common.{◌≡◌, ℕ, ◌+◌, ◌-◌, ◌*◌, ◌^◌, ◌≤◌, Bool, true, false, List, Ok, Option, None, Some, pos, negsuc, ◌-ℤ◌, if◌then◌else◌, refl, sym, ◌∙◌, ap, subst, arith}
 use Rattle.std.specs.Prelude.{position, ◌==◌}
 use Rattle.std.specs.Option.{IfSome}
 use Rattle.std.proofs.lemmas.Int.{ints}
@@ -8,24 +8,19 @@ use Rattle.std.proofs.lemmas.Bool.{lt-ltb, le-ltb}
 use Rattle.bit_ops.specs.Width.{IsWidth}
 use Rattle.bit_ops.specs.Meaning.{signed_of, word_of, sext_of}
 use Rattle.bit_ops.specs.declared.operation.Op.TheVariants as op
-use Rattle.bit_ops.specs.declared.value.TheConstants.{MAX_WIDTH}
-use Rattle.sv_base.specs.declared.refusal.Refusal.{Refusal}
 use Rattle.sv_base.specs.declared.kind.Kind.TheVariants.{BadNumber}
-use Rattle.sv_base.specs.declared.fault.Fault.{Fault}
-use Rattle.sv_base.specs.declared.fault.Fault.TheVariants.{Refused, NoMemory}
 use Rattle.sv_ast.specs.declared.expression.Id.{Id}
 use Rattle.sv_ast.specs.declared.expression.Sel.{Sel}
-use Rattle.sv_ast.specs.declared.expression.Expr.{Expr, Number, Fill}
+use Rattle.sv_ast.specs.declared.expression.Expr.{Expr}
 use Rattle.sv_ast.specs.declared.expression.Expr.TheOpen.{Expr-F}
 use Rattle.sv_ast.specs.declared.expression.Expr.TheViews.{out-Expr}
-use Rattle.sv_ast.specs.declared.expression.Expr.TheVariants.{outs-Number, outs-Fill}
 use Rattle.sv_ast.specs.declared.expression.Expr.TheFolds.{map-Expr, fold_out-Expr}
 use Rattle.net_ir.specs.declared.term.Term.{Const}
 use Rattle.net_ir.specs.Value.{AreWordsOf}
 use Rattle.net_ir.specs.Terms.{Has, has_const, has_one}
 use Rattle.const_eval.specs.declared.env.Const as found
 use Rattle.const_eval.specs.Literal.{Literal, number_of, fill_of}
-use Rattle.const_eval.specs.Meaning.{Meaning, own, alone, fill}
+use Rattle.const_eval.specs.Meaning.{own, alone, fill}
 use Rattle.const_eval.specs.Expressions as spec
 use Rattle.const_eval.specs.Expressions.{Names, Judged, Select, expression_layer, select_layer, meaning_of, select_of, refused_at, or_refused, ◌>>=◌}
 use Rattle.const_eval.specs.code.Agreeing.{Agrees}
@@ -33,7 +28,7 @@ use Rattle.const_eval.proofs.Means.{means}
 use Rattle.const_eval.proofs.Sizes.{IsSizedLiteral, number_at_sized}
 use Rattle.width_rules.specs.declared.measured.Measured.{Measured}
 use Rattle.width_rules.specs.declared.pending.Pending as pending
-use Rattle.width_rules.specs.code.Building.{one_of}
+use Rattle.width_rules.specs.Building.{one_of}
 use Rattle.width_rules.specs.code.Standing.{Stands, IsFound}
 use Rattle.width_rules.proofs.Pendings.{in_fill}
 use Rattle.width_rules.proofs.Standings.{WordsOfSigned, one_wide}
@@ -44,18 +39,6 @@ pub opened : (names : Names) (needed : Bool) (e : Expr) (x : Expr-F Expr Sel) �
 opened names needed e x is =
     ap (λ (f : Bool → Judged). f needed) (fold_out-Expr (Bool → Judged) Select (expression_layer names) select_layer e)
     ∙ ap (λ y. expression_layer names (map-Expr Expr Sel (Bool → Judged) Select (means names) (select_of names) y) needed) is
-
-pub number_opened : (names : Names) (needed : Bool) (e : Expr) (text : Id) → e ≡ Number text → meaning_of names needed e ≡ spec.literal text
-number_opened names needed e text is = ap (meaning_of names needed) is ∙ opened names needed (Number text) _ (outs-Number text)
-
-pub fill_opened : (names : Names) (needed : Bool) (e : Expr) (text : Id) → e ≡ Fill text → meaning_of names needed e ≡ spec.filled text
-fill_opened names needed e text is = ap (meaning_of names needed) is ∙ opened names needed (Fill text) _ (outs-Fill text)
-
--- a refusal agrees whatever is related where there is none
-pub refused_either : {X Y Z : Type 0} (R : X → Y → Type 0) (S : Z → Y → Type 0) (fault : Fault) (j : Result Y Refusal) → Agrees R (Err fault) j → Agrees S (Err fault) j
-refused_either R S (Refused told) (Ok y) h = absurd h
-refused_either R S NoMemory (Ok y) h = tt
-refused_either R S fault (Err refusal) h = h
 
 -- ---- numbers
 

@@ -1,6 +1,6 @@
 -- What names stand for in a scope.
-use Rattle.std.proofs.Common.{◌≡◌, ℕ, zero, suc, ◌<◌, ◌+◌, Bool, true, false, List, [], ◌∷◌, length, map, get_or, Option, None, Some, refl, sym, ◌∙◌, ap, subst, arith}
-use Rattle.std.specs.Prelude.{slice_get, slice_index, ℤ, pos, ◌-ℤ◌}
+use Rattle.std.proofs.Common.{◌≡◌, ℕ, zero, suc, ◌<◌, Bool, false, List, [], ◌∷◌, length, Option, None, Some, refl, sym, ap, subst, arith}
+use Rattle.std.specs.Prelude.{slice_get, slice_index, pos, ◌-ℤ◌}
 use Rattle.std.specs.List.{AllByRecursion}
 use Rattle.std.proofs.lemmas.List.{length-map}
 use Rattle.bit_ops.specs.Width.{IsWidth}
@@ -12,7 +12,6 @@ use Rattle.net_ir.specs.Terms.{Has, has_read, has_pick}
 use Rattle.const_eval.specs.declared.env.Bound.{Bound}
 use Rattle.const_eval.specs.declared.env.Bound.TheVariants.{Constant, Variable}
 use Rattle.const_eval.specs.Meaning.{Meaning, own, number, alone}
-use Rattle.const_eval.specs.Expressions as spec
 use Rattle.const_eval.specs.Selects.{Named, bits_from, part}
 use Rattle.width_rules.specs.declared.scope.Scope.{Scope}
 use Rattle.width_rules.specs.declared.measured.Measured.{Measured}
@@ -51,14 +50,6 @@ bound_wide scope u (Constant value low) lawful there = (value.value.positive, va
 bound_wide scope u (Variable x) lawful there =
     let found = var_at scope.vars x there in
     subst (λ (o : Option Var). IsWidth (variable_named o (slice_index u x)).size) (sym found.1) (width_of_all scope.vars x found.0 lawful.widths found.1)
-
--- a whole name
-pub whole_stands : (ws u : List ℕ) (r : Measured) (w : ℕ) (s : Bool) (n : Named) (t : Term) → w ≡ n.size → s ≡ n.signed → IsWidth n.size → Has ws u t n.size n.word →
-    ((x : ℕ) → IsWidth w → Has ws u t w x → Stands ws u r (alone w s x)) → Stands ws u r (spec.whole n)
-whole_stands ws u r w s n t size signed wide h step =
-    subst (λ k. Stands ws u r (alone k n.signed n.word)) size
-    (subst (λ k. Stands ws u r (alone w k n.word)) signed
-    (step n.word (subst IsWidth (sym size) wide) (subst (λ k. Has ws u t k n.word) (sym size) h)))
 
 -- so many bits of a name
 pub pick_stands : (ws u : List ℕ) (r : Measured) (n : Named) (p : Meaning) (down : Bool) (width : ℕ) (base : Term) (low : ℕ) (at : Term) (at_signed : Bool) →

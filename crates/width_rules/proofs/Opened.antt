@@ -1,230 +1,185 @@
--- Expressions whose parts stand for their meanings.
-use Rattle.std.proofs.Common.{◌≡◌, ℕ, ◌+◌, ◌≤◌, ◌<◌, arith, get_or, length, Bool, true, false, List, [], ◌∷◌, map, Result, Ok, Err, refl, sym, ◌∙◌, ap, subst}
-use Rattle.std.specs.Prelude.{IfOk}
+-- What is measured of an expression, one layer at a time.
+use Rattle.std.proofs.Common.{◌≡◌, ℕ, ◌+◌, ◌≤◌, ◌<◌, Bool, true, List, [], ◌∷◌, map, length, get_or, drop, suc, add-one, drop-cons, drop_of_length-le, Result, Ok, Err, refl, sym, ◌∙◌, ap, subst, arith}
 use Rattle.sv_base.specs.declared.refusal.Place.{Place}
 use Rattle.sv_base.specs.declared.refusal.Refusal.{Refusal}
 use Rattle.sv_base.specs.declared.fault.Fault.{Fault}
-use Rattle.sv_base.specs.declared.fault.Fault.TheVariants.{Refused}
+use Rattle.sv_base.specs.declared.fault.Fault.TheVariants.{Refused, NoMemory}
 use Rattle.sv_ast.specs.declared.expression.Id.{Id}
 use Rattle.sv_ast.specs.declared.expression.Sel.{Sel}
 use Rattle.sv_ast.specs.declared.expression.Sel as sel
-use Rattle.sv_ast.specs.declared.expression.Expr.{Expr, Read, Unary, Binary, Choice, Concat, Repeat, System}
+use Rattle.sv_ast.specs.declared.expression.Expr.{Expr, Number, Fill, Read, Unary, Binary, Choice, Concat, Repeat, System}
 use Rattle.sv_ast.specs.declared.expression.Expr.TheOpen.{Expr-F, Sel-F}
 use Rattle.sv_ast.specs.declared.expression.Expr.TheViews.{out-Expr, out-Sel}
-use Rattle.sv_ast.specs.declared.expression.Expr.TheVariants.{outs-Read, outs-Unary, outs-Binary, outs-Choice, outs-Concat, outs-Repeat, outs-System}
+use Rattle.sv_ast.specs.declared.expression.Expr.TheVariants.{outs-Number, outs-Fill, outs-Read, outs-Unary, outs-Binary, outs-Choice, outs-Concat, outs-Repeat, outs-System}
 use Rattle.sv_ast.specs.declared.expression.Sel.TheVariants.{outs-Bit, outs-Part, outs-Up, outs-Down}
 use Rattle.sv_ast.specs.declared.expression.Expr.TheFolds.{map-Expr, map-Sel, fold_out-Expr, fold_out-Sel}
-use Rattle.const_eval.specs.declared.env.Const.{Const}
-use Rattle.const_eval.specs.declared.env.Bound.{Bound}
-use Rattle.const_eval.specs.Meaning.{Meaning, chosen}
-use Rattle.const_eval.specs.Selects.{Named}
-use Rattle.const_eval.specs.Expressions as spec
-use Rattle.const_eval.specs.Expressions.{Names, Judged, Select, Positions, At, DownTo, UpFrom, DownFrom, expression_layer, select_layer, meaning_of, meanings_of, select_of, ◌>>=◌}
-use Rattle.const_eval.specs.code.Agreeing.{Agrees}
-use Rattle.const_eval.proofs.Judging.{agrees_behind, refused_first}
-use Rattle.const_eval.proofs.Means.{means}
 use Rattle.net_ir.specs.declared.design.Var.{Var}
+use Rattle.const_eval.specs.declared.env.Bound.{Bound}
+use Rattle.const_eval.specs.declared.env.Const as constant
+use Rattle.const_eval.specs.WholeNumbers.{whole_number_of, count_of}
+use Rattle.const_eval.specs.Expressions.{Judged, Select, meaning_of, select_of, second_select, ◌>>=◌}
+use Rattle.const_eval.specs.code.Agreeing.{Agrees}
 use Rattle.width_rules.specs.declared.measured.Measured.{Measured}
 use Rattle.width_rules.specs.declared.joined.Joined.{Joined}
-use Rattle.width_rules.specs.declared.taking.Taking.{Taking}
+use Rattle.width_rules.specs.declared.joined.Joined.TheVariants.{Nothing}
 use Rattle.width_rules.specs.declared.taking.Taking.TheVariants as taking
-use Rattle.width_rules.specs.Scope.{named_in}
-use Rattle.width_rules.specs.Nodes.{sum_of, parts_layer, select_parts_layer, parts_of, select_parts}
-use Rattle.width_rules.specs.code.Standing.{Stands, IsJoined, IsFound, ArePositions}
-use Rattle.width_rules.proofs.Literals.{opened}
+use Rattle.width_rules.specs.Values.{constant_of}
+use Rattle.width_rules.specs.Operations.{unary_on, binary_on, chosen, system_on}
+use Rattle.width_rules.specs.Joining.{joined_with, concatenation, repeated}
+use Rattle.width_rules.specs.Selecting.{Lookup, bound_by}
+use Rattle.width_rules.specs.Built as spec
+use Rattle.width_rules.specs.Built.{Built, BuiltSelect, constants_of, built_of, built_select_of, built_layer, built_select_layer, measured_layer, taking_layer, measured_of, joined_after, selected, selected_by}
+use Rattle.width_rules.proofs.Meant as meant
 
-module _ (ws u : List ℕ) (names : Names) where
-  pub unary_agrees : (sign : Id) (operand : Expr) (a : Measured) (r : Result Measured Fault) → Agrees (Stands ws u) (Ok a) (meaning_of names false operand) →
-      ((m : Meaning) → Stands ws u a m → Agrees (Stands ws u) r (spec.unary_on sign m)) → Agrees (Stands ws u) r (meaning_of names false (Unary sign operand))
-  unary_agrees sign operand a r h step =
-      rw (opened names false (Unary sign operand) _ (outs-Unary sign operand)) (agrees_behind (Stands ws u) (Stands ws u) a (meaning_of names false operand) _ r h step)
+-- ---- one answer behind another
 
-  pub binary_agrees : (sign : Id) (left right : Expr) (a b : Measured) (r : Result Measured Fault) → Agrees (Stands ws u) (Ok a) (meaning_of names false left) →
-      Agrees (Stands ws u) (Ok b) (meaning_of names false right) → ((m n : Meaning) → Stands ws u a m → Stands ws u b n → Agrees (Stands ws u) r (spec.binary_on false sign m n)) →
-      Agrees (Stands ws u) r (meaning_of names false (Binary sign left right))
-  binary_agrees sign left right a b r h k step =
-      rw (opened names false (Binary sign left right) _ (outs-Binary sign left right))
-      (agrees_behind (Stands ws u) (Stands ws u) a (meaning_of names false left) _ r h (λ m p. agrees_behind (Stands ws u) (Stands ws u) b (meaning_of names false right) _ r k (λ n q. step m n p q)))
+-- what is found is what is told, or the refusals are one
+abbrev pub IsTold : {X : Type 0} → Result X Fault → Result X Refusal → Type 0
+IsTold r told = Agrees (λ x y. x ≡ y) r told
 
-  pub binary_refused : (sign : Id) (left right : Expr) (a : Measured) (fault : Fault) → Agrees (Stands ws u) (Ok a) (meaning_of names false left) →
-      Agrees (Stands ws u) (Err fault) (meaning_of names false right) → Agrees (Stands ws u) (Err fault) (meaning_of names false (Binary sign left right))
-  binary_refused sign left right a fault h k =
-      rw (opened names false (Binary sign left right) _ (outs-Binary sign left right))
-      (agrees_behind (Stands ws u) (Stands ws u) a (meaning_of names false left) _ (Err fault) h (λ m p. refused_first (Stands ws u) (Stands ws u) fault (meaning_of names false right) _ k))
+pub told_behind : {X Y : Type 0} (x : X) (told : Result X Refusal) (f : X → Result Y Refusal) (r : Result Y Fault) → IsTold (Ok x) told → IsTold r (f x) → IsTold r (told >>= f)
+told_behind x (Ok y) f r same h = subst (λ z. IsTold r (f z)) same h
+told_behind x (Err refusal) f r same h = absurd same
 
-  pub choice_agrees : (sign : Id) (test first second : Expr) (c a b r : Measured) → Agrees (Stands ws u) (Ok c) (meaning_of names false test) →
-      Agrees (Stands ws u) (Ok a) (meaning_of names false first) → Agrees (Stands ws u) (Ok b) (meaning_of names false second) →
-      ((l m n : Meaning) → Stands ws u c l → Stands ws u a m → Stands ws u b n → Stands ws u r (chosen l m n)) → Agrees (Stands ws u) (Ok r) (meaning_of names false (Choice sign test first second))
-  choice_agrees sign test first second c a b r g h k step =
-      rw (opened names false (Choice sign test first second) _ (outs-Choice sign test first second))
-      (agrees_behind (Stands ws u) (Stands ws u) c (meaning_of names false test) _ (Ok r) g (λ l o.
-      agrees_behind (Stands ws u) (Stands ws u) a (meaning_of names false first) _ (Ok r) h (λ m p.
-      agrees_behind (Stands ws u) (Stands ws u) b (meaning_of names false second) _ (Ok r) k (λ n q. step l m n o p q))))
+pub told_first : {X Y : Type 0} (fault : Fault) (told : Result X Refusal) (f : X → Result Y Refusal) → IsTold (Err fault) told → IsTold (Err fault) (told >>= f)
+told_first (Refused refusal) (Ok y) f h = absurd h
+told_first NoMemory (Ok y) f h = free (f y) where
+  free : {Y : Type 0} (r : Result Y Refusal) → IsTold (Err NoMemory) r
+  free (Ok z) = tt
+  free (Err refusal) = tt
+told_first fault (Err refusal) f h = h
 
-  pub choice_refused : (sign : Id) (test first second : Expr) (c : Measured) (fault : Fault) → Agrees (Stands ws u) (Ok c) (meaning_of names false test) →
-      Agrees (Stands ws u) (Err fault) (meaning_of names false first) → Agrees (Stands ws u) (Err fault) (meaning_of names false (Choice sign test first second))
-  choice_refused sign test first second c fault g h =
-      rw (opened names false (Choice sign test first second) _ (outs-Choice sign test first second))
-      (agrees_behind (Stands ws u) (Stands ws u) c (meaning_of names false test) _ (Err fault) g (λ l o. refused_first (Stands ws u) (Stands ws u) fault (meaning_of names false first) _ h))
+module _ (lookup : Lookup) (vars : List Var) where
+  -- ---- layers
 
-  pub choice_refused_last : (sign : Id) (test first second : Expr) (c a : Measured) (fault : Fault) → Agrees (Stands ws u) (Ok c) (meaning_of names false test) →
-      Agrees (Stands ws u) (Ok a) (meaning_of names false first) → Agrees (Stands ws u) (Err fault) (meaning_of names false second) →
-      Agrees (Stands ws u) (Err fault) (meaning_of names false (Choice sign test first second))
-  choice_refused_last sign test first second c a fault g h k =
-      rw (opened names false (Choice sign test first second) _ (outs-Choice sign test first second))
-      (agrees_behind (Stands ws u) (Stands ws u) c (meaning_of names false test) _ (Err fault) g (λ l o.
-      agrees_behind (Stands ws u) (Stands ws u) a (meaning_of names false first) _ (Err fault) h (λ m p.
-      refused_first (Stands ws u) (Stands ws u) fault (meaning_of names false second) _ k)))
+  measured_opened : (e : Expr) (x : Expr-F Expr Sel) → out-Expr e ≡ x →
+      measured_of lookup vars e ≡ measured_layer lookup vars (map-Expr Expr Sel Built BuiltSelect (built_of lookup vars) (built_select_of lookup vars) x)
+  measured_opened e x is =
+      ap (λ (b : Built). b.measured) (fold_out-Expr Built BuiltSelect (built_layer lookup vars) built_select_layer e)
+      ∙ ap (λ y. measured_layer lookup vars (map-Expr Expr Sel Built BuiltSelect (built_of lookup vars) (built_select_of lookup vars) y)) is
 
-  pub concat_agrees : (place : Place) (parts : List Expr) (j : Joined) (r : Result Measured Fault) → Agrees (IsJoined ws u) (Ok j) (meanings_of names false parts) →
-      ((ms : List Meaning) → IsJoined ws u j ms → Agrees (Stands ws u) r (spec.concatenation place ms)) → Agrees (Stands ws u) r (meaning_of names false (Concat place parts))
-  concat_agrees place parts j r h step =
-      rw (opened names false (Concat place parts) _ (outs-Concat place parts)) (agrees_behind (IsJoined ws u) (Stands ws u) j (meanings_of names false parts) _ r h step)
+  taking_opened : (s : Sel) (x : Sel-F Expr Sel) → out-Sel s ≡ x →
+      (built_select_of lookup vars s).taking ≡ taking_layer (map-Sel Expr Sel Built BuiltSelect (built_of lookup vars) (built_select_of lookup vars) x)
+  taking_opened s x is =
+      ap (λ (b : BuiltSelect). b.taking) (fold_out-Sel Built BuiltSelect (built_layer lookup vars) built_select_layer s)
+      ∙ ap (λ y. taking_layer (map-Sel Expr Sel Built BuiltSelect (built_of lookup vars) (built_select_of lookup vars) y)) is
 
-  pub repeat_agrees : (place : Place) (count : Expr) (parts : List Expr) (c : Const) (j : Joined) (r : Result Measured Fault) → Agrees IsFound (Ok c) (meaning_of names true count) →
-      Agrees (IsJoined ws u) (Ok j) (meanings_of names false parts) → ((n : Meaning) (ms : List Meaning) → IsFound c n → IsJoined ws u j ms → Agrees (Stands ws u) r (spec.repeated place n ms)) →
-      Agrees (Stands ws u) r (meaning_of names false (Repeat place count parts))
-  repeat_agrees place count parts c j r g h step =
-      rw (opened names false (Repeat place count parts) _ (outs-Repeat place count parts))
-      (agrees_behind IsFound (Stands ws u) c (meaning_of names true count) _ r g (λ n p. agrees_behind (IsJoined ws u) (Stands ws u) j (meanings_of names false parts) _ r h (λ ms q. step n ms p q)))
+  -- an expression where a constant is needed
+  abbrev pub needed : Expr → Result constant.Const Refusal
+  needed e = constant_of (meaning_of (constants_of lookup) true e)
 
-  pub repeat_refused : (place : Place) (count : Expr) (parts : List Expr) (fault : Fault) → Agrees IsFound (Err fault) (meaning_of names true count) →
-      Agrees (Stands ws u) (Err fault) (meaning_of names false (Repeat place count parts))
-  repeat_refused place count parts fault g =
-      rw (opened names false (Repeat place count parts) _ (outs-Repeat place count parts)) (refused_first IsFound (Stands ws u) fault (meaning_of names true count) _ g)
+  constant_opened : (e : Expr) → constant_of ((built_of lookup vars e).meaning true) ≡ needed e
+  constant_opened e = ap (λ (f : Bool → Judged). constant_of (f true)) (meant.meant lookup vars e)
 
-  pub repeat_refused_parts : (place : Place) (count : Expr) (parts : List Expr) (c : Const) (fault : Fault) → Agrees IsFound (Ok c) (meaning_of names true count) →
-      Agrees (IsJoined ws u) (Err fault) (meanings_of names false parts) → Agrees (Stands ws u) (Err fault) (meaning_of names false (Repeat place count parts))
-  repeat_refused_parts place count parts c fault g h =
-      rw (opened names false (Repeat place count parts) _ (outs-Repeat place count parts))
-      (agrees_behind IsFound (Stands ws u) c (meaning_of names true count) _ (Err fault) g (λ n p. refused_first (IsJoined ws u) (Stands ws u) fault (meanings_of names false parts) _ h))
+  pub measured_number : (text : Id) → measured_of lookup vars (Number text) ≡ spec.literal text
+  measured_number text = measured_opened (Number text) _ (outs-Number text)
 
-  pub system_agrees : (name : Id) (argument : Expr) (a : Measured) (r : Result Measured Fault) → Agrees (Stands ws u) (Ok a) (meaning_of names false argument) →
-      ((m : Meaning) → Stands ws u a m → Agrees (Stands ws u) r (spec.system_on false name m)) → Agrees (Stands ws u) r (meaning_of names false (System name argument))
-  system_agrees name argument a r h step =
-      rw (opened names false (System name argument) _ (outs-System name argument)) (agrees_behind (Stands ws u) (Stands ws u) a (meaning_of names false argument) _ r h step)
+  pub measured_fill : (text : Id) → measured_of lookup vars (Fill text) ≡ spec.filled text
+  measured_fill text = measured_opened (Fill text) _ (outs-Fill text)
 
-  pub read_agrees : (vars : List Var) (name : Id) (selects : List Sel) (b : Bound) (r : Result Measured Fault) →
-      Agrees (λ b named. named ≡ named_in vars u b) (Ok b) (spec.named_by names false name) →
-      Agrees (Stands ws u) r (spec.selected (map (select_of names) selects) false (named_in vars u b) name) → Agrees (Stands ws u) r (meaning_of names false (Read name selects))
-  read_agrees vars name selects b r h g =
-      rw (opened names false (Read name selects) _ (outs-Read name selects))
-      (agrees_behind (λ b named. named ≡ named_in vars u b) (Stands ws u) b (spec.named_by names false name) _ r h
-      (λ named is. subst (λ (n : Named). Agrees (Stands ws u) r (spec.selected (map (select_of names) selects) false n name)) (sym is) g))
+  pub measured_read : (name : Id) (selects : List Sel) →
+      measured_of lookup vars (Read name selects) ≡ (bound_by lookup name >>= λ bound. selected vars name bound (map (built_select_of lookup vars) selects))
+  measured_read name selects = measured_opened (Read name selects) _ (outs-Read name selects)
 
-  -- ---- positions
+  pub measured_unary : (sign : Id) (a : Expr) → measured_of lookup vars (Unary sign a) ≡ (measured_of lookup vars a >>= λ k. unary_on sign k)
+  measured_unary sign a = measured_opened (Unary sign a) _ (outs-Unary sign a)
 
-  select_opened : (s : Sel) (x : Sel-F Expr Sel) → out-Sel s ≡ x → select_of names s ≡ select_layer (map-Sel Expr Sel (Bool → Judged) Select (means names) (select_of names) x)
-  select_opened s x is =
-      fold_out-Sel (Bool → Judged) Select (expression_layer names) select_layer s ∙ ap (λ y. select_layer (map-Sel Expr Sel (Bool → Judged) Select (means names) (select_of names) y)) is
+  pub measured_binary : (sign : Id) (a b : Expr) →
+      measured_of lookup vars (Binary sign a b) ≡ (measured_of lookup vars a >>= λ k. measured_of lookup vars b >>= λ l. binary_on sign k l)
+  measured_binary sign a b = measured_opened (Binary sign a b) _ (outs-Binary sign a b)
 
-  pub at_agrees : (place : Place) (at : Expr) (a : Measured) → Agrees (Stands ws u) (Ok a) (meaning_of names false at) →
-      Agrees (ArePositions ws u) (Ok (taking.At a)) ((select_of names (sel.Bit place at)).positions false)
-  at_agrees place at a h =
-      rw (select_opened (sel.Bit place at) _ (outs-Bit place at)) (agrees_behind (Stands ws u) (ArePositions ws u) a (meaning_of names false at) _ (Ok (taking.At a)) h (λ p q. q))
+  pub measured_choice : (sign : Id) (c a b : Expr) →
+      measured_of lookup vars (Choice sign c a b) ≡ (measured_of lookup vars c >>= λ t. measured_of lookup vars a >>= λ k. measured_of lookup vars b >>= λ l. Ok (chosen t k l))
+  measured_choice sign c a b = measured_opened (Choice sign c a b) _ (outs-Choice sign c a b)
 
-  pub at_refused : (place : Place) (at : Expr) (fault : Fault) → Agrees (Stands ws u) (Err fault) (meaning_of names false at) →
-      Agrees (ArePositions ws u) (Err fault) ((select_of names (sel.Bit place at)).positions false)
-  at_refused place at fault h = rw (select_opened (sel.Bit place at) _ (outs-Bit place at)) (refused_first (Stands ws u) (ArePositions ws u) fault (meaning_of names false at) _ h)
+  pub measured_concat : (place : Place) (parts : List Expr) →
+      measured_of lookup vars (Concat place parts) ≡ (joined_after Nothing (map (built_of lookup vars) parts) >>= λ j. concatenation place j)
+  measured_concat place parts = measured_opened (Concat place parts) _ (outs-Concat place parts)
 
-  pub part_agrees : (place : Place) (high low : Expr) (a b : Const) → Agrees IsFound (Ok a) (meaning_of names true high) → Agrees IsFound (Ok b) (meaning_of names true low) →
-      Agrees (ArePositions ws u) (Ok (taking.DownTo a b)) ((select_of names (sel.Part place high low)).positions false)
-  part_agrees place high low a b h k =
-      rw (select_opened (sel.Part place high low) _ (outs-Part place high low))
-      (agrees_behind IsFound (ArePositions ws u) a (meaning_of names true high) _ (Ok (taking.DownTo a b)) h (λ m p.
-      agrees_behind IsFound (ArePositions ws u) b (meaning_of names true low) _ (Ok (taking.DownTo a b)) k (λ l q. (p, q))))
+  pub measured_repeat : (place : Place) (count : Expr) (parts : List Expr) →
+      measured_of lookup vars (Repeat place count parts)
+      ≡ (needed count >>= λ c. joined_after Nothing (map (built_of lookup vars) parts) >>= λ j. repeated place (count_of (whole_number_of c)) j)
+  measured_repeat place count parts =
+      measured_opened (Repeat place count parts) _ (outs-Repeat place count parts)
+      ∙ ap (λ (r : Result constant.Const Refusal). r >>= λ c. joined_after Nothing (map (built_of lookup vars) parts) >>= λ j. repeated place (count_of (whole_number_of c)) j) (constant_opened count)
 
-  pub part_refused : (place : Place) (high low : Expr) (fault : Fault) → Agrees IsFound (Err fault) (meaning_of names true high) →
-      Agrees (ArePositions ws u) (Err fault) ((select_of names (sel.Part place high low)).positions false)
-  part_refused place high low fault h = rw (select_opened (sel.Part place high low) _ (outs-Part place high low)) (refused_first IsFound (ArePositions ws u) fault (meaning_of names true high) _ h)
-
-  pub part_refused_low : (place : Place) (high low : Expr) (a : Const) (fault : Fault) → Agrees IsFound (Ok a) (meaning_of names true high) →
-      Agrees IsFound (Err fault) (meaning_of names true low) → Agrees (ArePositions ws u) (Err fault) ((select_of names (sel.Part place high low)).positions false)
-  part_refused_low place high low a fault h k =
-      rw (select_opened (sel.Part place high low) _ (outs-Part place high low))
-      (agrees_behind IsFound (ArePositions ws u) a (meaning_of names true high) _ (Err fault) h (λ m p. refused_first IsFound (ArePositions ws u) fault (meaning_of names true low) _ k))
-
-  pub up_agrees : (place : Place) (at width : Expr) (a : Measured) (b : Const) → Agrees (Stands ws u) (Ok a) (meaning_of names false at) →
-      Agrees IsFound (Ok b) (meaning_of names true width) → Agrees (ArePositions ws u) (Ok (taking.UpFrom a b)) ((select_of names (sel.Up place at width)).positions false)
-  up_agrees place at width a b h k =
-      rw (select_opened (sel.Up place at width) _ (outs-Up place at width))
-      (agrees_behind (Stands ws u) (ArePositions ws u) a (meaning_of names false at) _ (Ok (taking.UpFrom a b)) h (λ m p.
-      agrees_behind IsFound (ArePositions ws u) b (meaning_of names true width) _ (Ok (taking.UpFrom a b)) k (λ l q. (p, q))))
-
-  pub up_refused : (place : Place) (at width : Expr) (fault : Fault) → Agrees (Stands ws u) (Err fault) (meaning_of names false at) →
-      Agrees (ArePositions ws u) (Err fault) ((select_of names (sel.Up place at width)).positions false)
-  up_refused place at width fault h = rw (select_opened (sel.Up place at width) _ (outs-Up place at width)) (refused_first (Stands ws u) (ArePositions ws u) fault (meaning_of names false at) _ h)
-
-  pub up_refused_width : (place : Place) (at width : Expr) (a : Measured) (fault : Fault) → Agrees (Stands ws u) (Ok a) (meaning_of names false at) →
-      Agrees IsFound (Err fault) (meaning_of names true width) → Agrees (ArePositions ws u) (Err fault) ((select_of names (sel.Up place at width)).positions false)
-  up_refused_width place at width a fault h k =
-      rw (select_opened (sel.Up place at width) _ (outs-Up place at width))
-      (agrees_behind (Stands ws u) (ArePositions ws u) a (meaning_of names false at) _ (Err fault) h (λ m p. refused_first IsFound (ArePositions ws u) fault (meaning_of names true width) _ k))
-
-  pub down_agrees : (place : Place) (at width : Expr) (a : Measured) (b : Const) → Agrees (Stands ws u) (Ok a) (meaning_of names false at) →
-      Agrees IsFound (Ok b) (meaning_of names true width) → Agrees (ArePositions ws u) (Ok (taking.DownFrom a b)) ((select_of names (sel.Down place at width)).positions false)
-  down_agrees place at width a b h k =
-      rw (select_opened (sel.Down place at width) _ (outs-Down place at width))
-      (agrees_behind (Stands ws u) (ArePositions ws u) a (meaning_of names false at) _ (Ok (taking.DownFrom a b)) h (λ m p.
-      agrees_behind IsFound (ArePositions ws u) b (meaning_of names true width) _ (Ok (taking.DownFrom a b)) k (λ l q. (p, q))))
-
-  pub down_refused : (place : Place) (at width : Expr) (fault : Fault) → Agrees (Stands ws u) (Err fault) (meaning_of names false at) →
-      Agrees (ArePositions ws u) (Err fault) ((select_of names (sel.Down place at width)).positions false)
-  down_refused place at width fault h = rw (select_opened (sel.Down place at width) _ (outs-Down place at width)) (refused_first (Stands ws u) (ArePositions ws u) fault (meaning_of names false at) _ h)
-
-  pub down_refused_width : (place : Place) (at width : Expr) (a : Measured) (fault : Fault) → Agrees (Stands ws u) (Ok a) (meaning_of names false at) →
-      Agrees IsFound (Err fault) (meaning_of names true width) → Agrees (ArePositions ws u) (Err fault) ((select_of names (sel.Down place at width)).positions false)
-  down_refused_width place at width a fault h k =
-      rw (select_opened (sel.Down place at width) _ (outs-Down place at width))
-      (agrees_behind (Stands ws u) (ArePositions ws u) a (meaning_of names false at) _ (Err fault) h (λ m p. refused_first IsFound (ArePositions ws u) fault (meaning_of names true width) _ k))
+  pub measured_system : (name : Id) (a : Expr) → measured_of lookup vars (System name a) ≡ (measured_of lookup vars a >>= λ k. system_on name k)
+  measured_system name a = measured_opened (System name a) _ (outs-System name a)
 
   -- ---- selects
 
-  pub selected_one : (s : Sel) (named : Named) (name : Id) (t : Taking) (r : Result Measured Fault) → Agrees (ArePositions ws u) (Ok t) ((select_of names s).positions false) →
-      ((positions : Positions) → ArePositions ws u t positions → Agrees (Stands ws u) r (spec.take positions named name)) →
-      Agrees (Stands ws u) r (spec.selected_by (select_of names s) false named name)
-  selected_one s named name t r h step = agrees_behind (ArePositions ws u) (Stands ws u) t ((select_of names s).positions false) _ r h step
+  pub taking_bit : (place : Place) (at : Expr) → (built_select_of lookup vars (sel.Bit place at)).taking ≡ (measured_of lookup vars at >>= λ p. Ok (taking.At p))
+  taking_bit place at = taking_opened (sel.Bit place at) _ (outs-Bit place at)
 
-  pub twice_refused : (s q : Sel) (fault : Fault) → Agrees (ArePositions ws u) (Err fault) ((select_of names s).positions false) →
-      Agrees (Stands ws u) (Err fault) (spec.twice_selected (select_of names s) (select_of names q) false)
-  twice_refused s q fault h = refused_first (ArePositions ws u) (Stands ws u) fault ((select_of names s).positions false) _ h
+  pub taking_part : (place : Place) (high low : Expr) →
+      (built_select_of lookup vars (sel.Part place high low)).taking ≡ (needed high >>= λ m. needed low >>= λ l. Ok (taking.DownTo m l))
+  taking_part place high low =
+      taking_opened (sel.Part place high low) _ (outs-Part place high low)
+      ∙ ap (λ (r : Result constant.Const Refusal). r >>= λ m. constant_of ((built_of lookup vars low).meaning true) >>= λ l. Ok (taking.DownTo m l)) (constant_opened high)
+      ∙ ap (λ (r : Result constant.Const Refusal). needed high >>= λ m. r >>= λ l. Ok (taking.DownTo m l)) (constant_opened low)
 
-  pub twice_refused_second : (s q : Sel) (t : Taking) (fault : Fault) → Agrees (ArePositions ws u) (Ok t) ((select_of names s).positions false) →
-      Agrees (ArePositions ws u) (Err fault) ((select_of names q).positions false) → Agrees (Stands ws u) (Err fault) (spec.twice_selected (select_of names s) (select_of names q) false)
-  twice_refused_second s q t fault h k =
-      agrees_behind (ArePositions ws u) (Stands ws u) t ((select_of names s).positions false) _ (Err fault) h (λ p o.
-      refused_first (ArePositions ws u) (Stands ws u) fault ((select_of names q).positions false) _ k)
+  pub taking_up : (place : Place) (at width : Expr) →
+      (built_select_of lookup vars (sel.Up place at width)).taking ≡ (measured_of lookup vars at >>= λ p. needed width >>= λ w. Ok (taking.UpFrom p w))
+  taking_up place at width =
+      taking_opened (sel.Up place at width) _ (outs-Up place at width)
+      ∙ ap (λ (r : Result constant.Const Refusal). measured_of lookup vars at >>= λ p. r >>= λ w. Ok (taking.UpFrom p w)) (constant_opened width)
 
-  pub twice_told : (s q : Sel) (t v : Taking) (fault : Fault) → Agrees (ArePositions ws u) (Ok t) ((select_of names s).positions false) →
-      Agrees (ArePositions ws u) (Ok v) ((select_of names q).positions false) → fault ≡ Refused (spec.second_select (select_of names q).place) →
-      Agrees (Stands ws u) (Err fault) (spec.twice_selected (select_of names s) (select_of names q) false)
-  twice_told s q t v fault h k told =
-      agrees_behind (ArePositions ws u) (Stands ws u) t ((select_of names s).positions false) _ (Err fault) h (λ p o.
-      agrees_behind (ArePositions ws u) (Stands ws u) v ((select_of names q).positions false) _ (Err fault) k (λ l i. rw told refl))
+  pub taking_down : (place : Place) (at width : Expr) →
+      (built_select_of lookup vars (sel.Down place at width)).taking ≡ (measured_of lookup vars at >>= λ p. needed width >>= λ w. Ok (taking.DownFrom p w))
+  taking_down place at width =
+      taking_opened (sel.Down place at width) _ (outs-Down place at width)
+      ∙ ap (λ (r : Result constant.Const Refusal). measured_of lookup vars at >>= λ p. r >>= λ w. Ok (taking.DownFrom p w)) (constant_opened width)
+
+  -- the place of a second select
+  pub second_place : (s : Sel) (place : Place) → place ≡ (select_of (constants_of lookup) s).place → place ≡ (built_select_of lookup vars s).select.place
+  second_place s place is = is ∙ ap (λ (t : Select). t.place) (sym (meant.chosen lookup vars s))
+
+  -- ---- parts
+
+  split_parts : (parts : List Expr) (i : ℕ) (e : Expr) → i < length parts → e ≡ get_or parts i e → drop i parts ≡ e ∷ drop (i + 1) parts
+  split_parts parts i e within is = rw add-one (drop-cons parts i e within ∙ ap (λ x. x ∷ drop (suc i) parts) (sym is))
+
+  -- the next part, and what is left behind it
+  pub next_part : (j : Joined) (parts : List Expr) (i : ℕ) (e : Expr) → i < length parts → e ≡ get_or parts i e →
+      joined_after j (map (built_of lookup vars) (drop i parts))
+      ≡ (measured_of lookup vars e >>= λ m. joined_after (joined_with j m) (map (built_of lookup vars) (drop (i + 1) parts)))
+  next_part j parts i e within is = ap (λ es. joined_after j (map (built_of lookup vars) es)) (split_parts parts i e within is)
+
+  -- a part that was measured
+  told_next : (m : Measured) (told : Result Measured Refusal) (f : Measured → Result Joined Refusal) → IsTold (Ok m) told → (told >>= f) ≡ f m
+  told_next m (Ok n) f same = ap f (sym same)
+  told_next m (Err refusal) f same = absurd same
+
+  pub goes_on : (whole : Result Joined Refusal) (j k : Joined) (m : Measured) (parts : List Expr) (i : ℕ) (e : Expr) → i < length parts → e ≡ get_or parts i e →
+      whole ≡ joined_after j (map (built_of lookup vars) (drop i parts)) → IsTold (Ok m) (measured_of lookup vars e) → k ≡ joined_with j m →
+      whole ≡ joined_after k (map (built_of lookup vars) (drop (i + 1) parts))
+  goes_on whole j k m parts i e within is h told next =
+      h ∙ next_part j parts i e within is ∙ told_next m (measured_of lookup vars e) _ told ∙ ap (λ l. joined_after l (map (built_of lookup vars) (drop (i + 1) parts))) (sym next)
+
+  pub part_refused : (whole : Result Joined Refusal) (j : Joined) (fault : Fault) (parts : List Expr) (i : ℕ) (e : Expr) → i < length parts → e ≡ get_or parts i e →
+      whole ≡ joined_after j (map (built_of lookup vars) (drop i parts)) → IsTold (Err fault) (measured_of lookup vars e) → IsTold (Err fault) whole
+  part_refused whole j fault parts i e within is h told =
+      subst (IsTold (Err fault)) (sym (h ∙ next_part j parts i e within is)) (told_first fault (measured_of lookup vars e) _ told)
+
+  pub all_joined : (whole : Result Joined Refusal) (j : Joined) (parts : List Expr) (i : ℕ) → length parts ≤ i →
+      whole ≡ joined_after j (map (built_of lookup vars) (drop i parts)) → IsTold (Ok j) whole
+  all_joined whole j parts i long h =
+      subst (IsTold (Ok j)) (sym (h ∙ ap (λ es. joined_after j (map (built_of lookup vars) es)) (drop_of_length-le parts long))) refl
+
+-- ---- names with their selects
 
 -- one select, and two of a list
-pub one_select : (f : Sel → Select) (xs : List Sel) (a : Sel) (named : Named) (name : Id) → 1 ≤ length xs → length xs < 2 → a ≡ get_or xs 0 a →
-    spec.selected (map f xs) false named name ≡ spec.selected_by (f a) false named name
-one_select f [] a named name long short is = absurd (omega (arith, long))
-one_select f (x ∷ []) a named name long short is = ap (λ y. spec.selected_by (f y) false named name) (sym is)
-one_select f (x ∷ y ∷ more) a named name long short is = absurd (omega (arith, short))
+pub one_select : (vars : List Var) (name : Id) (bound : Bound) (f : Sel → BuiltSelect) (xs : List Sel) (a : Sel) → 1 ≤ length xs → length xs < 2 → a ≡ get_or xs 0 a →
+    selected vars name bound (map f xs) ≡ selected_by vars name bound (f a)
+one_select vars name bound f [] a long short is = absurd (omega (arith, long))
+one_select vars name bound f (x ∷ []) a long short is = ap (λ y. selected_by vars name bound (f y)) (sym is)
+one_select vars name bound f (x ∷ y ∷ more) a long short is = absurd (omega (arith, short))
 
-pub two_selects : (f : Sel → Select) (xs : List Sel) (a b : Sel) (named : Named) (name : Id) → 2 ≤ length xs → a ≡ get_or xs 0 a → b ≡ get_or xs 1 b →
-    spec.selected (map f xs) false named name ≡ spec.twice_selected (f a) (f b) false
-two_selects f [] a b named name long p q = absurd (omega (arith, long))
-two_selects f (x ∷ []) a b named name long p q = absurd (omega (arith, long))
-two_selects f (x ∷ y ∷ more) a b named name long p q = ap (λ z. spec.twice_selected (f z) (f y) false) (sym p) ∙ ap (λ z. spec.twice_selected (f a) (f z) false) (sym q)
+abbrev pub twice : BuiltSelect → BuiltSelect → Result Measured Refusal
+twice s t = s.taking >>= λ _. t.taking >>= λ _. Err (second_select t.select.place)
 
--- ---- how many nodes
-
-pub parts_concat : (place : Place) (parts : List Expr) → parts_of (Concat place parts) ≡ 1 + sum_of (map parts_of parts)
-parts_concat place parts =
-    fold_out-Expr ℕ ℕ parts_layer select_parts_layer (Concat place parts) ∙ ap (λ y. parts_layer (map-Expr Expr Sel ℕ ℕ parts_of select_parts y)) (outs-Concat place parts)
-
-pub parts_repeat : (place : Place) (count : Expr) (parts : List Expr) → parts_of (Repeat place count parts) ≡ 1 + parts_of count + sum_of (map parts_of parts)
-parts_repeat place count parts =
-    fold_out-Expr ℕ ℕ parts_layer select_parts_layer (Repeat place count parts) ∙ ap (λ y. parts_layer (map-Expr Expr Sel ℕ ℕ parts_of select_parts y)) (outs-Repeat place count parts)
-
-pub ok_from : {X E : Type 0} (P Q : X → Type 0) (r : Result X E) → ((x : X) → P x → Q x) → IfOk r P → IfOk r Q
-ok_from P Q (Ok x) step h = step x h
-ok_from P Q (Err e) step h = tt
+pub two_selects : (vars : List Var) (name : Id) (bound : Bound) (f : Sel → BuiltSelect) (xs : List Sel) (a b : Sel) → 2 ≤ length xs → a ≡ get_or xs 0 a → b ≡ get_or xs 1 b →
+    selected vars name bound (map f xs) ≡ twice (f a) (f b)
+two_selects vars name bound f [] a b long p q = absurd (omega (arith, long))
+two_selects vars name bound f (x ∷ []) a b long p q = absurd (omega (arith, long))
+two_selects vars name bound f (x ∷ y ∷ more) a b long p q = ap (λ z. twice (f z) (f y)) (sym p) ∙ ap (λ z. twice (f a) (f z)) (sym q)

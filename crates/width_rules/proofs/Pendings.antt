@@ -1,5 +1,5 @@
 -- Pending terms, one layer at a time.
-use Rattle.std.proofs.Common.{◌≡◌, ℕ, ◌+◌, Bool, ◌∙◌, ap}
+use Rattle.std.proofs.Common.{◌≡◌, ℕ, Bool, ◌∙◌, ap}
 use Rattle.bit_ops.specs.declared.value.Bits.{Bits}
 use Rattle.bit_ops.specs.declared.operation.Op.TheVariants as op
 use Rattle.const_eval.specs.declared.pending.Change.{Change}
@@ -9,8 +9,8 @@ use Rattle.width_rules.specs.declared.pending.Shift.{Shift}
 use Rattle.width_rules.specs.declared.pending.Pending.{Pending, Alone, Fill, Changed, Combined, Shifted, Chosen}
 use Rattle.width_rules.specs.declared.pending.Pending.TheVariants.{outs-Alone, outs-Fill, outs-Changed, outs-Combined, outs-Shifted, outs-Chosen}
 use Rattle.width_rules.specs.declared.pending.Pending.TheFolds.{map-Pending, fold_out-Pending}
-use Rattle.width_rules.specs.code.Building.{one_of, two_of, choice_of, extended_to, change_by, combined_to, shift_by}
-use Rattle.width_rules.specs.code.Waiting.{term_layer, term_in}
+use Rattle.width_rules.specs.Building.{one_of, two_of, choice_of, extended_to, change_by, combined_to, shift_by}
+use Rattle.width_rules.specs.Waiting.{term_layer, term_in}
 
 pub in_alone : (width : ℕ) (t : Term) (n : ℕ) (s : Bool) → term_in (Alone width t) n s ≡ extended_to n s width t
 in_alone width t n s =

@@ -1,18 +1,16 @@
 -- What was measured stands for a meaning: how operators keep that.
-use Rattle.std.proofs.Common.{◌≡◌, ℕ, ◌+◌, ◌-◌, ◌*◌, ◌^◌, ◌≤◌, ◌<◌, Bool, true, false, List, [], ◌∷◌, refl, sym, ◌∙◌, ap, subst, arith, max, ◌==◌, ◌&&◌, ◌||◌, not, if◌then◌else◌, bit_and, bit_or}
+use Rattle.std.proofs.Common.{◌≡◌, ℕ, ◌-◌, ◌^◌, ◌≤◌, ◌<◌, Bool, true, false, List, [], ◌∷◌, refl, sym, ◌∙◌, ap, subst, arith, max, ◌==◌, ◌&&◌, ◌||◌, not, if◌then◌else◌, bit_and, bit_or}
 use Rattle.std.proofs.lemmas.Bool.Decides.{nat_tests}
 use Rattle.bit_ops.specs.declared.value.TheConstants.{MAX_WIDTH}
 use Rattle.bit_ops.specs.Width.{IsWidth, WidthsFit}
 use Rattle.bit_ops.specs.Rows.{value_of}
-use Rattle.bit_ops.specs.Meaning.{signed_of, word_of, sext_of, zext_of, red_or_of, red_and_of, red_xor_of, mux_of}
-use Rattle.bit_ops.specs.declared.value.Bits.{Bits}
+use Rattle.bit_ops.specs.Meaning.{signed_of, word_of, sext_of, red_or_of, mux_of}
 use Rattle.bit_ops.specs.declared.operation.Op.{Op}
 use Rattle.bit_ops.specs.declared.operation.Op.TheVariants as op
-use Rattle.sv_base.specs.declared.operator.Unary.TheVariants.{LogicalNot}
-use Rattle.net_ir.specs.declared.term.Term.{Term, Const}
+use Rattle.net_ir.specs.declared.term.Term.{Term}
 use Rattle.net_ir.specs.Value.{AreWordsOf, size, val}
 use Rattle.net_ir.specs.Lawful.{IsLawful}
-use Rattle.net_ir.specs.Terms.{Has, has_const, has_one, has_two, has_three}
+use Rattle.net_ir.specs.Terms.{Has, has_one, has_two, has_three}
 use Rattle.const_eval.specs.declared.pending.Change.{Change}
 use Rattle.const_eval.specs.declared.pending.Change.TheVariants.{Negate, Invert}
 use Rattle.const_eval.specs.declared.pending.Operation.{Operation}
@@ -21,18 +19,18 @@ use Rattle.const_eval.specs.declared.shape.Reduction.{Reduction}
 use Rattle.const_eval.specs.declared.shape.Reduction.TheVariants as reduction
 use Rattle.const_eval.specs.declared.shape.Comparison.{Comparison}
 use Rattle.const_eval.specs.declared.shape.Comparison.TheVariants.{Equal, Less, Greater}
-use Rattle.const_eval.specs.Meaning.{Meaning, own, holds, extended, alone, fill, flag, each_bit, reduced, combined, compared, moved, chosen, meeting, are_signed}
-use Rattle.const_eval.specs.Operators.{unary_by, opposite}
+use Rattle.const_eval.specs.Meaning.{Meaning, own, holds, extended, alone, each_bit, combined, moved, chosen, meeting, are_signed}
 use Rattle.const_eval.specs.Operations.{changed_by, combined_by}
 use Rattle.const_eval.specs.Shapes.{turned, reduced_by, compared_by}
 use Rattle.width_rules.specs.declared.pending.Shift.{Shift}
 use Rattle.width_rules.specs.declared.pending.Shift.TheVariants.{Left, Right, ArithmeticRight}
-use Rattle.width_rules.specs.declared.pending.Pending.{Pending, Alone, Fill, Changed, Combined, Shifted, Chosen}
+use Rattle.width_rules.specs.declared.pending.Pending.{Alone, Changed, Combined, Shifted, Chosen}
 use Rattle.width_rules.specs.declared.measured.Measured.{Measured}
-use Rattle.width_rules.specs.code.Building.{one_of, two_of, choice_of, extended_to, change_by, combined_to, shift_by, turned_to, comparison_to, reduction_by}
-use Rattle.width_rules.specs.code.Waiting.{term_in, own_term, holds_term, shifted_by, IsBitwise, logical_by}
+use Rattle.width_rules.specs.Building.{one_of, two_of, choice_of, extended_to, change_by, combined_to, shift_by, turned_to, comparison_to, reduction_by}
+use Rattle.width_rules.specs.Waiting.{term_in, own_term, holds_term}
+use Rattle.width_rules.specs.code.Waiting.{shifted_by, IsBitwise, logical_by}
 use Rattle.width_rules.specs.code.Standing.{Stands}
-use Rattle.width_rules.proofs.Pendings.{in_alone, in_fill, in_changed, in_combined, in_shifted, in_chosen}
+use Rattle.width_rules.proofs.Pendings.{in_alone, in_changed, in_combined, in_shifted, in_chosen}
 
 -- laws that the code has by calls: a lawful term's value is a word of its size, and a word is that of its signed number
 abbrev pub ValuesFit : Type 0

@@ -1,4 +1,12 @@
 pub mod Scope
 pub mod Sized
 pub mod Nodes
+pub mod Building
+pub mod Waiting
+pub mod Assigning
+pub mod Values
+pub mod Operations
+pub mod Joining
+pub mod Selecting
+pub mod Built
 pub mod code

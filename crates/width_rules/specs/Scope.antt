@@ -1,5 +1,5 @@
 -- What names mean in a scope, where its nets and variables have words.
-use Rattle.std.specs.Prelude.{◌≡◌, ℕ, ◌<◌, Bool, false, List, length, Option, None, Some, slice_get, slice_index, ⊤}
+use Rattle.std.specs.Prelude.{◌≡◌, ℕ, ◌<◌, false, List, length, Option, None, Some, slice_get, slice_index, ⊤}
 use Rattle.std.specs.List.{AllByRecursion}
 use Rattle.bit_ops.specs.Width.{IsWidth}
 use Rattle.sv_ast.specs.declared.expression.Expr.{Expr}

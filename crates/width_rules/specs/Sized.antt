@@ -1,5 +1,5 @@
 -- Terms with the size and the value that expressions have in a context.
-use Rattle.std.specs.Prelude.{◌≡◌, ℕ, Bool, List, Option, Result, Ok, Err}
+use Rattle.std.specs.Prelude.{◌≡◌, ℕ, Bool, List, Option, Ok, Err}
 use Rattle.net_ir.specs.declared.term.Term.{Term}
 use Rattle.net_ir.specs.Value.{size, val}
 use Rattle.const_eval.specs.Meaning.{Meaning, assigned, assigned_size}

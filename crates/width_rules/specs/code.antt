@@ -1,6 +1,4 @@
-pub mod Building
 pub mod Waiting
 pub mod Joining
 pub mod Taking
 pub mod Standing
-pub mod Assigning

@@ -1,8 +1,7 @@
 //! Terms of operations.
 
-ghost use Rattle.std.specs.Prelude.{◌≡◌, ◌≤◌, ◌+◌, IfOk};
-ghost use Rattle.width_rules.specs.Nodes.{nodes_of};
-ghost use Rattle.width_rules.specs.code.Building as spec;
+ghost use Rattle.std.specs.Prelude.{◌≡◌, IfOk};
+ghost use Rattle.width_rules.specs.Building as spec;
 
 use crate::pending::Shift;
 use bit_ops::Op;
@@ -12,10 +11,8 @@ use sqlite_items::Items;
 use std::alloc::{AllocError, Global};
 
 /// An operation on one term.
-#[tactic(auto, using(crate::proofs::Nodes::nodes_one))]
 pub fn one_of(alloc: Global, op: Op, width: u32, a: Term) -> Result<Term, AllocError>
     ensures term { IfOk result (λ t. t ≡ spec.one_of op width a) }
-    ensures nodes { IfOk result (λ t. nodes_of t ≡ 1 + nodes_of a) }
 {
     let mut args = Items::new(alloc);
     args.push(a)?;
@@ -28,10 +25,8 @@ pub fn one_of(alloc: Global, op: Op, width: u32, a: Term) -> Result<Term, AllocE
 }
 
 /// An operation on two terms.
-#[tactic(auto, using(crate::proofs::Nodes::nodes_two))]
 pub fn two_of(alloc: Global, op: Op, width: u32, a: Term, b: Term) -> Result<Term, AllocError>
     ensures term { IfOk result (λ t. t ≡ spec.two_of op width a b) }
-    ensures nodes { IfOk result (λ t. nodes_of t ≡ 1 + nodes_of a + nodes_of b) }
 {
     let mut args = Items::new(alloc);
     args.push(a)?;
@@ -45,10 +40,8 @@ pub fn two_of(alloc: Global, op: Op, width: u32, a: Term, b: Term) -> Result<Ter
 }
 
 /// A choice between two terms, the first where a bit is 1.
-#[tactic(auto, using(crate::proofs::Nodes::nodes_three))]
 pub fn choice_of(alloc: Global, width: u32, bit: Term, a: Term, b: Term) -> Result<Term, AllocError>
     ensures term { IfOk result (λ t. t ≡ spec.choice_of width bit a b) }
-    ensures nodes { IfOk result (λ t. nodes_of t ≡ 1 + nodes_of bit + nodes_of a + nodes_of b) }
 {
     let mut args = Items::new(alloc);
     args.push(bit)?;
@@ -71,7 +64,6 @@ pub fn extended_to(
     term: Term,
 ) -> Result<Term, AllocError>
     ensures term { IfOk result (λ t. t ≡ spec.extended_to size signed width term) }
-    ensures nodes { IfOk result (λ t. nodes_of t ≤ 1 + nodes_of term) }
 {
     if width == size {
         return Ok(term);
@@ -83,7 +75,6 @@ pub fn extended_to(
 /// A term of a size, cut to a width.
 pub fn cut_to(alloc: Global, width: u32, size: u32, term: Term) -> Result<Term, AllocError>
     ensures term { IfOk result (λ t. t ≡ spec.cut_to width size term) }
-    ensures nodes { IfOk result (λ t. nodes_of t ≤ 1 + nodes_of term) }
 {
     if width == size {
         Ok(term)
@@ -95,7 +86,6 @@ pub fn cut_to(alloc: Global, width: u32, size: u32, term: Term) -> Result<Term, 
 /// A bit, turned or not.
 pub fn turned_to(alloc: Global, turn: bool, bit: Term) -> Result<Term, AllocError>
     ensures term { IfOk result (λ t. t ≡ spec.turned_to turn bit) }
-    ensures nodes { IfOk result (λ t. nodes_of t ≤ 1 + nodes_of bit) }
 {
     if turn {
         one_of(alloc, Op::Not, 1, bit)
@@ -153,7 +143,6 @@ pub fn combined_to(
     b: Term,
 ) -> Result<Term, AllocError>
     ensures term { IfOk result (λ t. t ≡ spec.combined_to operation size signed a b) }
-    ensures nodes { IfOk result (λ t. nodes_of t ≤ 2 + nodes_of a + nodes_of b) }
 {
     let both = two_of(alloc, operation_by(operation, signed), size, a, b)?;
     match operation {

@@ -1,20 +1,11 @@
 //! Concatenations and replications (IEEE 1800-2017, 11.4.12).
 
-ghost use Rattle.std.specs.Prelude.{◌≡◌, ◌≤◌, ◌*◌, ◌+◌, ◌++◌, ◌&&◌, nat_le, ℕ, List, [], ◌∷◌, false, IfOk};
+ghost use Rattle.std.specs.Prelude.{◌≡◌, ◌≤◌, ◌*◌, IfOk};
 ghost use Rattle.bit_ops.specs.declared.value.TheConstants.{MAX_WIDTH};
 ghost use Rattle.bit_ops.specs.Width.{IsWidth};
-ghost use Rattle.const_eval.specs.Meaning as meaning;
-ghost use Rattle.const_eval.specs.Meaning.{Meaning, number};
-ghost use Rattle.const_eval.specs.Selects as selects;
-ghost use Rattle.const_eval.specs.WholeNumbers.{integer_of};
-ghost use Rattle.const_eval.specs.Expressions as spec;
+ghost use Rattle.const_eval.specs.WholeNumbers.{integer_of, count_of};
 ghost use Rattle.const_eval.specs.code.Agreeing.{Agrees};
-ghost use Rattle.net_ir.specs.Value.{AreWordsOf};
-ghost use Rattle.width_rules.specs.Nodes.{nodes_of};
-ghost use Rattle.width_rules.specs.code.Waiting.{weight_of};
-ghost use Rattle.width_rules.specs.code.Joining.{joined_nodes};
-ghost use Rattle.net_ir.specs.Terms.{Has};
-ghost use Rattle.width_rules.specs.code.Standing.{Stands, IsJoined};
+ghost use Rattle.width_rules.specs.Joining as spec;
 
 use crate::building::{extended_to, two_of};
 use crate::fault::WidthFault;
@@ -31,10 +22,7 @@ use sv_base::{Kind, Place};
 impl Joined {
     /// One part more, which stands below the others.
     pub fn with(self, alloc: Global, part: Measured) -> Result<Joined, AllocError>
-        ensures joined { (ws u : List ℕ) (ms : List Meaning) (m : Meaning) → IsJoined ws u self ms
-            → Stands ws u part m
-            → IfOk result (λ j. IsJoined ws u j (ms ++ m ∷ [])) }
-        ensures nodes { IfOk result (λ j. joined_nodes j ≤ 1 + joined_nodes self + weight_of part.pending) }
+        ensures built { IfOk result (λ j. j ≡ spec.joined_with self part) }
     {
         let size = part.size;
         match self {
@@ -51,9 +39,7 @@ impl Joined {
 
 /// What is made of parts, where their width is one that a value may have.
 pub fn concatenation(alloc: Global, place: Place, joined: Joined) -> Result<Measured, WidthFault>
-    ensures meaning { (ws u : List ℕ) (ms : List Meaning) → AreWordsOf ws u → IsJoined ws u joined ms
-        → Agrees (Stands ws u) result (spec.concatenation place ms) }
-    ensures weight { IfOk result (λ r. weight_of r.pending ≡ 1 + joined_nodes joined) }
+    ensures built { Agrees (λ r m. r ≡ m) result (spec.concatenation place joined) }
 {
     match joined {
         Joined::Nothing => Err(unnamed_at(alloc, Kind::BadRange, place)),
@@ -67,12 +53,8 @@ fn repetition(alloc: Global, count: u32, width: u32, term: Term) -> Result<Measu
     requires some { 1 ≤ count }
     requires width { IsWidth width }
     requires fits { count * width ≤ MAX_WIDTH }
-    ensures meaning { (ws u : List ℕ) (x : ℕ) → AreWordsOf ws u → Has ws u term width x
-        → IfOk result (λ r. Stands ws u r (meaning.alone (count * width) false (selects.copies count width x))) }
-    ensures weight { IfOk result (λ r. weight_of r.pending ≤ 4 + nodes_of term) }
+    ensures built { IfOk result (λ r. r ≡ spec.repetition count width term) }
 {
-    net_ir::law::lawful_values();
-    bit_ops::laws::signed_numbers();
     let size = count * width;
     let wide = extended_to(alloc, size, false, width, term)?;
     let ones = copies(count, Bits::truncated(width, 1));
@@ -82,7 +64,7 @@ fn repetition(alloc: Global, count: u32, width: u32, term: Term) -> Result<Measu
 
 /// Whether so many copies of some bits are a width that a value may have.
 fn fits(count: Word, width: u32) -> bool
-    ensures { result ≡ (nat_le 1 width && nat_le (count * width) MAX_WIDTH) }
+    ensures { result ≡ spec.fits count width }
 {
     1 <= width && count.saturating_mul(Word::from(width)) <= Word::from(MAX_WIDTH)
 }
@@ -94,10 +76,7 @@ pub fn repeated(
     count: WholeNumber,
     joined: Joined,
 ) -> Result<Measured, WidthFault>
-    ensures meaning { (ws u : List ℕ) (n : Meaning) (ms : List Meaning) → AreWordsOf ws u
-        → integer_of count ≡ number n → IsJoined ws u joined ms
-        → Agrees (Stands ws u) result (spec.repeated place n ms) }
-    ensures weight { IfOk result (λ r. weight_of r.pending ≤ 4 + joined_nodes joined) }
+    ensures built { Agrees (λ r m. r ≡ m) result (spec.repeated place (count_of (integer_of count)) joined) }
 {
     let count = count.count();
     if count == 0 {

@@ -18,5 +18,7 @@ mod sizing;
 mod taking;
 
 pub use fault::WidthFault;
+pub use measure::measure;
+pub use measured::Measured;
 pub use scope::Scope;
 pub use sizing::sized;

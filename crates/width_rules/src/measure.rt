@@ -1,16 +1,18 @@
 //! From an expression to its size, its sign and its term.
 
-ghost use Rattle.std.specs.Prelude.{◌≡◌, ◌≤◌, ◌+◌, ◌*◌, ℕ, List, true, false, map, IfOk};
+ghost use Rattle.std.specs.Prelude.{◌≡◌, true, map, IfOk};
 ghost use Rattle.sv_ast.specs.declared.expression.Id.{Id};
 ghost use Rattle.sv_ast.specs.declared.expression.Expr.{Number, Fill};
-ghost use Rattle.const_eval.specs.Expressions as spec;
+ghost use Rattle.const_eval.specs.Env.{bound_of};
+ghost use Rattle.const_eval.specs.Constant.{names_of};
+ghost use Rattle.const_eval.specs.Expressions.{Names, meaning_of, select_of};
 ghost use Rattle.const_eval.specs.code.Agreeing.{Agrees};
-ghost use Rattle.net_ir.specs.Value.{widths_of};
-ghost use Rattle.width_rules.specs.Scope.{names_in, meaning_in, named_in, AreWordsIn, IsScope, IsBoundIn};
-ghost use Rattle.width_rules.specs.Nodes.{parts_of, select_parts, sum_of};
-ghost use Rattle.width_rules.specs.code.Waiting.{weight_of, taking_weight};
-ghost use Rattle.width_rules.specs.code.Joining.{joined_nodes};
-ghost use Rattle.width_rules.specs.code.Standing.{Stands, IsJoined, IsFound, ArePositions};
+ghost use Rattle.width_rules.specs.declared.joined.Joined.TheVariants.{Nothing};
+ghost use Rattle.width_rules.specs.Scope.{IsScope, IsBoundIn};
+ghost use Rattle.width_rules.specs.Values.{constant_of};
+ghost use Rattle.width_rules.specs.Selecting.{bound_by};
+ghost use Rattle.width_rules.specs.Built as spec;
+ghost use Rattle.width_rules.specs.Built.{built_of, built_select_of, measured_of};
 
 use crate::fault::WidthFault;
 use crate::join::{concatenation, repeated};
@@ -33,9 +35,7 @@ use sv_base::{Kind, Place};
 #[cycle(measuring)]
 pub fn measure(alloc: Global, scope: &Scope, e: &Expr) -> Result<Measured, WidthFault>
     requires { IsScope scope.now }
-    ensures meaning { (u : List ℕ) → AreWordsIn scope.now u
-        → Agrees (Stands (widths_of scope.now.vars) u) result (meaning_in scope.now u e.now) }
-    ensures weight { IfOk result (λ m. weight_of m.pending + 1 ≤ 6 * parts_of e.now) }
+    ensures built { Agrees (λ r m. r ≡ m) result (measured_of (bound_of scope.now.names) scope.now.vars e.now) }
 {
     match e {
         Expr::Number(_) => literal(alloc, scope, e),
@@ -77,11 +77,8 @@ pub fn measure(alloc: Global, scope: &Scope, e: &Expr) -> Result<Measured, Width
 
 /// A number.
 fn literal(alloc: Global, scope: &Scope, e: &Expr) -> Result<Measured, WidthFault>
-    ensures meaning { (u : List ℕ) (text : Id) → AreWordsIn scope.now u → e.now ≡ Number text
-        → Agrees (Stands (widths_of scope.now.vars) u) result (spec.literal text) }
-    ensures weight { IfOk result (λ m. weight_of m.pending ≡ 2) }
+    ensures built { (text : Id) → e.now ≡ Number text → Agrees (λ r m. r ≡ m) result (spec.literal text) }
 {
-    bit_ops::laws::signed_numbers();
     let number = constant_in(alloc, scope, e)?;
     let bits = number.value;
     Ok(alone(bits.width, Term::Const(bits), number.signed))
@@ -89,11 +86,8 @@ fn literal(alloc: Global, scope: &Scope, e: &Expr) -> Result<Measured, WidthFaul
 
 /// A fill.
 fn filled(alloc: Global, scope: &Scope, e: &Expr) -> Result<Measured, WidthFault>
-    ensures meaning { (u : List ℕ) (text : Id) → AreWordsIn scope.now u → e.now ≡ Fill text
-        → Agrees (Stands (widths_of scope.now.vars) u) result (spec.filled text) }
-    ensures weight { IfOk result (λ m. weight_of m.pending ≡ 2) }
+    ensures built { (text : Id) → e.now ≡ Fill text → Agrees (λ r m. r ≡ m) result (spec.filled text) }
 {
-    bit_ops::laws::signed_numbers();
     let bit = constant_in(alloc, scope, e)?;
     Ok(Measured {
         size: 1,
@@ -106,8 +100,7 @@ fn filled(alloc: Global, scope: &Scope, e: &Expr) -> Result<Measured, WidthFault
 fn bound(alloc: Global, scope: &Scope, name: &Id) -> Result<Bound, WidthFault>
     requires { IsScope scope.now }
     ensures bound { IfOk result (IsBoundIn scope.now) }
-    ensures meaning { (u : List ℕ) → Agrees (λ b named. named ≡ named_in scope.now.vars u b) result
-        (spec.named_by (names_in scope.now u) false name.now) }
+    ensures built { Agrees (λ r b. r ≡ b) result (bound_by (bound_of scope.now.names) name.now) }
 {
     match scope.names.bound(&name.name) {
         Some(bound) => Ok(bound),
@@ -117,9 +110,8 @@ fn bound(alloc: Global, scope: &Scope, name: &Id) -> Result<Bound, WidthFault>
 
 /// The value of an expression where a constant is needed.
 fn constant_in(alloc: Global, scope: &Scope, e: &Expr) -> Result<Const, WidthFault>
-    ensures { (u : List ℕ) → Agrees IsFound result (spec.meaning_of (names_in scope.now u) true e.now) }
+    ensures built { Agrees (λ r c. r ≡ c) result (constant_of (meaning_of (names_of scope.now.names) true e.now)) }
 {
-    const_eval::law::constants_alone();
     constant(alloc, e, &scope.names)
 }
 
@@ -134,11 +126,8 @@ fn read(
 ) -> Result<Measured, WidthFault>
     requires scope { IsScope scope.now }
     requires bound { IsBoundIn scope.now bound }
-    ensures meaning { (u : List ℕ) → AreWordsIn scope.now u
-        → Agrees (Stands (widths_of scope.now.vars) u) result
-        (spec.selected (map (spec.select_of (names_in scope.now u)) selects.now) false
-        (named_in scope.now.vars u bound) name.now) }
-    ensures weight { IfOk result (λ m. weight_of m.pending + 1 ≤ 6 * (1 + sum_of (map select_parts selects.now))) }
+    ensures built { Agrees (λ r m. r ≡ m) result (spec.selected scope.now.vars name.now bound
+        (map (built_select_of (bound_of scope.now.names) scope.now.vars) selects.now)) }
 {
     match selects {
         [] => Ok(whole(scope, name, bound)),
@@ -162,11 +151,8 @@ fn select(
 ) -> Result<Measured, WidthFault>
     requires scope { IsScope scope.now }
     requires bound { IsBoundIn scope.now bound }
-    ensures meaning { (u : List ℕ) → AreWordsIn scope.now u
-        → Agrees (Stands (widths_of scope.now.vars) u) result
-        (spec.selected_by (spec.select_of (names_in scope.now u) select.now) false
-        (named_in scope.now.vars u bound) name.now) }
-    ensures weight { IfOk result (λ m. weight_of m.pending + 1 ≤ 6 * (1 + select_parts select.now)) }
+    ensures built { Agrees (λ r m. r ≡ m) result
+        (spec.selected_by scope.now.vars name.now bound (built_select_of (bound_of scope.now.names) scope.now.vars select.now)) }
 {
     let taking = positions(alloc, scope, select)?;
     take(alloc, scope, name, bound, taking)
@@ -174,7 +160,7 @@ fn select(
 
 /// Where the `[` of a select stands.
 fn place_of(select: &Sel) -> Place
-    ensures { (names : spec.Names) → result ≡ (spec.select_of names select.now).place }
+    ensures { (names : Names) → result ≡ (select_of names select.now).place }
 {
     match select {
         Sel::Bit(place, _)
@@ -188,10 +174,8 @@ fn place_of(select: &Sel) -> Place
 #[cycle(measuring)]
 fn positions(alloc: Global, scope: &Scope, select: &Sel) -> Result<Taking, WidthFault>
     requires { IsScope scope.now }
-    ensures positions { (u : List ℕ) → AreWordsIn scope.now u
-        → Agrees (ArePositions (widths_of scope.now.vars) u) result
-        ((spec.select_of (names_in scope.now u) select.now).positions false) }
-    ensures weight { IfOk result (λ t. taking_weight t ≤ 6 * select_parts select.now) }
+    ensures built { Agrees (λ r t. r ≡ t) result
+        (built_select_of (bound_of scope.now.names) scope.now.vars select.now).taking }
 {
     match select {
         Sel::Bit(_, at) => {
@@ -220,10 +204,8 @@ fn positions(alloc: Global, scope: &Scope, select: &Sel) -> Result<Taking, Width
 #[cycle(measuring)]
 fn join(alloc: Global, scope: &Scope, parts: &[Expr]) -> Result<Joined, WidthFault>
     requires { IsScope scope.now }
-    ensures joined { (u : List ℕ) → AreWordsIn scope.now u
-        → Agrees (IsJoined (widths_of scope.now.vars) u) result
-        (spec.meanings_of (names_in scope.now u) false parts.now) }
-    ensures nodes { IfOk result (λ j. joined_nodes j ≤ 6 * sum_of (map parts_of parts.now)) }
+    ensures built { Agrees (λ r j. r ≡ j) result
+        (spec.joined_after Nothing (map (built_of (bound_of scope.now.names) scope.now.vars) parts.now)) }
 {
     let mut joined = Joined::Nothing;
     for part in parts {

@@ -1,19 +1,12 @@
 //! Operators and functions on what was measured (IEEE 1800-2017, 11.4, 11.7).
 
-ghost use Rattle.std.specs.Prelude.{◌≡◌, ◌≤◌, ◌+◌, ◌&&◌, max, ℕ, List, false, IfOk};
-ghost use Rattle.sv_base.specs.declared.operator.Unary.TheVariants.{LogicalNot};
-ghost use Rattle.const_eval.specs.Meaning as meaning;
-ghost use Rattle.const_eval.specs.Meaning.{Meaning};
-ghost use Rattle.const_eval.specs.Operations as operations;
-ghost use Rattle.const_eval.specs.Operators as operators;
-ghost use Rattle.const_eval.specs.Shapes as shapes;
-ghost use Rattle.const_eval.specs.Expressions as spec;
+ghost use Rattle.std.specs.Prelude.{◌≡◌, ◌&&◌, max, Some, IfOk};
+ghost use Rattle.sv_base.specs.declared.kind.Kind.TheVariants.{NotConstant};
 ghost use Rattle.sv_base.specs.declared.operator.Binary.TheVariants as binary;
-ghost use Rattle.width_rules.specs.Nodes.{nodes_of};
-ghost use Rattle.width_rules.specs.code.Building as building;
-ghost use Rattle.width_rules.specs.code.Waiting.{weight_of, shifted_by, IsBitwise, logical_by};
+ghost use Rattle.const_eval.specs.Expressions.{refused_at, or_refused};
 ghost use Rattle.const_eval.specs.code.Agreeing.{Agrees};
-ghost use Rattle.width_rules.specs.code.Standing.{Stands};
+ghost use Rattle.width_rules.specs.Building as building;
+ghost use Rattle.width_rules.specs.Operations as spec;
 
 use crate::building::{one_of, reduction_by, turned_to, two_of};
 use crate::fault::WidthFault;
@@ -32,9 +25,7 @@ use sv_base::{Binary, Function, Kind, Unary};
 
 /// What is done to an operand in its context.
 fn changed(alloc: Global, change: Change, a: Measured) -> Result<Measured, AllocError>
-    ensures meaning { (ws u : List ℕ) (m : Meaning) → Stands ws u a m
-        → IfOk result (λ r. Stands ws u r (meaning.each_bit (operations.changed_by change) m)) }
-    ensures weight { IfOk result (λ r. weight_of r.pending ≡ 1 + weight_of a.pending) }
+    ensures built { IfOk result (λ r. r ≡ spec.changed change a) }
 {
     let Measured {
         size,
@@ -55,10 +46,7 @@ fn reduced(
     turn: bool,
     a: Measured,
 ) -> Result<Measured, AllocError>
-    ensures meaning { (ws u : List ℕ) (m : Meaning) → Stands ws u a m
-        → IfOk result (λ r. Stands ws u r
-        (meaning.reduced (λ w x. shapes.turned turn (shapes.reduced_by reduction w x)) m)) }
-    ensures weight { IfOk result (λ r. weight_of r.pending ≤ 3 + weight_of a.pending) }
+    ensures built { IfOk result (λ r. r ≡ spec.reduced reduction turn a) }
 {
     let own = a.own(alloc)?;
     let bit = one_of(alloc, reduction_by(reduction), 1, own)?;
@@ -67,9 +55,7 @@ fn reduced(
 
 /// `!` of an operand by itself.
 fn denied(alloc: Global, a: Measured) -> Result<Measured, AllocError>
-    ensures meaning { (ws u : List ℕ) (m : Meaning) → Stands ws u a m
-        → IfOk result (λ r. Stands ws u r (operators.unary_by LogicalNot m)) }
-    ensures weight { IfOk result (λ r. weight_of r.pending ≤ 3 + weight_of a.pending) }
+    ensures built { IfOk result (λ r. r ≡ spec.denied a) }
 {
     let holds = a.holds(alloc)?;
     Ok(alone(1, one_of(alloc, Op::Not, 1, holds)?, false))
@@ -77,9 +63,7 @@ fn denied(alloc: Global, a: Measured) -> Result<Measured, AllocError>
 
 /// What an operator makes of the operand behind it.
 fn unary(alloc: Global, operator: Unary, a: Measured) -> Result<Measured, AllocError>
-    ensures meaning { (ws u : List ℕ) (m : Meaning) → Stands ws u a m
-        → IfOk result (λ r. Stands ws u r (operators.unary_by operator m)) }
-    ensures weight { IfOk result (λ r. weight_of r.pending ≤ 3 + weight_of a.pending) }
+    ensures built { IfOk result (λ r. r ≡ spec.unary_by operator a) }
 {
     match operator {
         Unary::Plus => Ok(a),
@@ -110,9 +94,7 @@ fn combined(
     a: Measured,
     b: Measured,
 ) -> Result<Measured, AllocError>
-    ensures meaning { (ws u : List ℕ) (m n : Meaning) → Stands ws u a m → Stands ws u b n
-        → IfOk result (λ r. Stands ws u r (meaning.combined (operations.combined_by operation) m n)) }
-    ensures weight { IfOk result (λ r. weight_of r.pending ≡ 2 + weight_of a.pending + weight_of b.pending) }
+    ensures built { IfOk result (λ r. r ≡ spec.combined operation a b) }
 {
     let (size, signed) = meet(&a, &b);
     Ok(Measured {
@@ -135,7 +117,6 @@ fn comparison_bit(
     b: Term,
 ) -> Result<Term, AllocError>
     ensures term { IfOk result (λ t. t ≡ building.comparison_to comparison signed a b) }
-    ensures nodes { IfOk result (λ t. nodes_of t ≡ 1 + nodes_of a + nodes_of b) }
 {
     let less = if signed { Op::LtS } else { Op::LtU };
     match comparison {
@@ -153,10 +134,7 @@ fn compared(
     a: Measured,
     b: Measured,
 ) -> Result<Measured, AllocError>
-    ensures meaning { (ws u : List ℕ) (m n : Meaning) → Stands ws u a m → Stands ws u b n
-        → IfOk result (λ r. Stands ws u r
-        (meaning.compared (λ w s x y. shapes.turned turn (shapes.compared_by comparison w s x y)) m n)) }
-    ensures weight { IfOk result (λ r. weight_of r.pending ≤ 3 + weight_of a.pending + weight_of b.pending) }
+    ensures built { IfOk result (λ r. r ≡ spec.compared comparison turn a b) }
 {
     let (size, signed) = meet(&a, &b);
     let left = settle(alloc, a.pending, size, signed)?;
@@ -167,9 +145,7 @@ fn compared(
 
 /// A shift of an operand in its context, by another by itself.
 fn shifted(alloc: Global, shift: Shift, a: Measured, b: Measured) -> Result<Measured, AllocError>
-    ensures meaning { (ws u : List ℕ) (m n : Meaning) → Stands ws u a m → Stands ws u b n
-        → IfOk result (λ r. Stands ws u r (meaning.moved (shifted_by shift) m n)) }
-    ensures weight { IfOk result (λ r. weight_of r.pending ≤ 1 + weight_of a.pending + weight_of b.pending) }
+    ensures built { IfOk result (λ r. r ≡ spec.shifted shift a b) }
 {
     let amount = b.own(alloc)?;
     let Measured {
@@ -186,10 +162,7 @@ fn shifted(alloc: Global, shift: Shift, a: Measured, b: Measured) -> Result<Meas
 
 /// Whether two operands by themselves are not 0, joined by an operation on bits.
 fn both_hold(alloc: Global, op: Op, a: Measured, b: Measured) -> Result<Measured, AllocError>
-    requires { IsBitwise op }
-    ensures meaning { (ws u : List ℕ) (m n : Meaning) → Stands ws u a m → Stands ws u b n
-        → IfOk result (λ r. Stands ws u r (logical_by op m n)) }
-    ensures weight { IfOk result (λ r. weight_of r.pending ≤ 4 + weight_of a.pending + weight_of b.pending) }
+    ensures built { IfOk result (λ r. r ≡ spec.both_hold op a b) }
 {
     let left = a.holds(alloc)?;
     let right = b.holds(alloc)?;
@@ -199,9 +172,7 @@ fn both_hold(alloc: Global, op: Op, a: Measured, b: Measured) -> Result<Measured
 /// What an operator makes of two operands; a power only constants have.
 fn binary(alloc: Global, operator: Binary, a: Measured, b: Measured) -> Result<Measured, AllocError>
     requires { operator ≡ binary.Power → ⊥ }
-    ensures meaning { (ws u : List ℕ) (m n : Meaning) → Stands ws u a m → Stands ws u b n
-        → IfOk result (λ r. Stands ws u r (operators.binary_by operator m n)) }
-    ensures weight { IfOk result (λ r. weight_of r.pending ≤ 4 + weight_of a.pending + weight_of b.pending) }
+    ensures built { IfOk result (λ r. spec.binary_by operator a b ≡ Some r) }
 {
     match operator {
         Binary::Power => unreachable!(),
@@ -235,10 +206,7 @@ pub fn chosen(
     a: Measured,
     b: Measured,
 ) -> Result<Measured, AllocError>
-    ensures meaning { (ws u : List ℕ) (c m n : Meaning) → Stands ws u condition c → Stands ws u a m → Stands ws u b n
-        → IfOk result (λ r. Stands ws u r (meaning.chosen c m n)) }
-    ensures weight { IfOk result (λ r. weight_of r.pending
-        ≤ 2 + weight_of condition.pending + weight_of a.pending + weight_of b.pending) }
+    ensures built { IfOk result (λ r. r ≡ spec.chosen condition a b) }
 {
     let (size, signed) = meet(&a, &b);
     let bit = condition.holds(alloc)?;
@@ -255,9 +223,7 @@ pub fn chosen(
 
 /// An operator before an operand, by its sign.
 pub fn unary_by(alloc: Global, sign: &Id, a: Measured) -> Result<Measured, WidthFault>
-    ensures meaning { (ws u : List ℕ) (m : Meaning) → Stands ws u a m
-        → Agrees (Stands ws u) result (spec.unary_on sign.now m) }
-    ensures weight { IfOk result (λ r. weight_of r.pending ≤ 3 + weight_of a.pending) }
+    ensures built { Agrees (λ r m. r ≡ m) result (spec.unary_on sign.now a) }
 {
     match Unary::of(sign.name.bytes()) {
         Some(operator) => Ok(unary(alloc, operator, a)?),
@@ -273,9 +239,8 @@ fn binary_judged(
     a: Measured,
     b: Measured,
 ) -> Result<Measured, WidthFault>
-    ensures meaning { (ws u : List ℕ) (m n : Meaning) → Stands ws u a m → Stands ws u b n
-        → Agrees (Stands ws u) result (spec.binary_judged operator false sign.now m n) }
-    ensures weight { IfOk result (λ r. weight_of r.pending ≤ 4 + weight_of a.pending + weight_of b.pending) }
+    ensures built { Agrees (λ r m. r ≡ m) result
+        (or_refused (refused_at NotConstant sign.now) (spec.binary_by operator a b)) }
 {
     match operator {
         Binary::Power => Err(refused_at(alloc, Kind::NotConstant, sign)?),
@@ -285,9 +250,7 @@ fn binary_judged(
 
 /// An operator between two operands, by its sign.
 pub fn binary_by(alloc: Global, sign: &Id, a: Measured, b: Measured) -> Result<Measured, WidthFault>
-    ensures meaning { (ws u : List ℕ) (m n : Meaning) → Stands ws u a m → Stands ws u b n
-        → Agrees (Stands ws u) result (spec.binary_on false sign.now m n) }
-    ensures weight { IfOk result (λ r. weight_of r.pending ≤ 4 + weight_of a.pending + weight_of b.pending) }
+    ensures built { Agrees (λ r m. r ≡ m) result (spec.binary_on sign.now a b) }
 {
     match Binary::of(sign.name.bytes()) {
         Some(operator) => binary_judged(alloc, operator, sign, a, b),
@@ -297,9 +260,7 @@ pub fn binary_by(alloc: Global, sign: &Id, a: Measured, b: Measured) -> Result<M
 
 /// An operand by itself, taken with a sign.
 fn cast(alloc: Global, a: Measured, signed: bool) -> Result<Measured, AllocError>
-    ensures meaning { (ws u : List ℕ) (m : Meaning) → Stands ws u a m
-        → IfOk result (λ r. Stands ws u r (meaning.alone m.size signed (meaning.own m))) }
-    ensures weight { IfOk result (λ r. weight_of r.pending ≤ 1 + weight_of a.pending) }
+    ensures built { IfOk result (λ r. r ≡ spec.cast signed a) }
 {
     let size = a.size;
     let own = a.own(alloc)?;
@@ -308,9 +269,7 @@ fn cast(alloc: Global, a: Measured, signed: bool) -> Result<Measured, AllocError
 
 /// A system function, by its name; a logarithm only constants have.
 pub fn function_by(alloc: Global, name: &Id, a: Measured) -> Result<Measured, WidthFault>
-    ensures meaning { (ws u : List ℕ) (m : Meaning) → Stands ws u a m
-        → Agrees (Stands ws u) result (spec.system_on false name.now m) }
-    ensures weight { IfOk result (λ r. weight_of r.pending ≤ 1 + weight_of a.pending) }
+    ensures built { Agrees (λ r m. r ≡ m) result (spec.system_on name.now a) }
 {
     match Function::of(name.name.bytes()) {
         Some(Function::Signed) => Ok(cast(alloc, a, true)?),

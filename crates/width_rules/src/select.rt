@@ -1,18 +1,13 @@
-//! Names with their selects (IEEE 1800-2017, 11.5.1).
+//! Terms of names and of what is selected of them (IEEE 1800-2017, 11.5.1).
 
-ghost use Rattle.std.specs.Prelude.{◌≡◌, ◌≤◌, ◌+◌, ℕ, List, pos, IfOk};
-ghost use Rattle.bit_ops.specs.Width.{IsWidth};
-ghost use Rattle.const_eval.specs.Meaning.{Meaning, own, number};
-ghost use Rattle.const_eval.specs.Selects.{part};
-ghost use Rattle.const_eval.specs.Expressions as spec;
+ghost use Rattle.std.specs.Prelude.{◌≡◌, pos, IfOk};
 ghost use Rattle.const_eval.specs.code.Agreeing.{Agrees};
-ghost use Rattle.net_ir.specs.Value.{widths_of, lowest_from};
-ghost use Rattle.width_rules.specs.Scope.{named_in, AreWordsIn, IsScope, IsBoundIn};
-ghost use Rattle.width_rules.specs.Nodes.{nodes_of};
-ghost use Rattle.width_rules.specs.code.Waiting.{weight_of, taking_weight};
-ghost use Rattle.width_rules.specs.code.Taking.{taken_width, indexed};
-ghost use Rattle.net_ir.specs.Terms.{Has};
-ghost use Rattle.width_rules.specs.code.Standing.{Stands, IsFound, ArePositions};
+ghost use Rattle.width_rules.specs.Scope.{IsScope, IsBoundIn};
+ghost use Rattle.width_rules.specs.Waiting.{own_term};
+ghost use Rattle.width_rules.specs.Selecting as spec;
+ghost use Rattle.width_rules.specs.Selecting.{shape_of};
+ghost use Rattle.width_rules.specs.declared.taking.Taking.TheVariants as taking;
+ghost use Rattle.width_rules.specs.code.Taking.{indexed};
 
 use crate::fault::WidthFault;
 use crate::measured::Measured;
@@ -31,7 +26,7 @@ use sv_base::Kind;
 /// The width of what a name stands for.
 fn width_of(scope: &Scope, bound: Bound) -> u32
     requires { IsBoundIn scope.now bound }
-    ensures { (u : List ℕ) → result ≡ (named_in scope.now.vars u bound).size }
+    ensures { result ≡ (shape_of scope.now.vars bound).size }
 {
     match bound {
         Bound::Constant { value, .. } => value.value.width,
@@ -42,7 +37,7 @@ fn width_of(scope: &Scope, bound: Bound) -> u32
 /// Whether bits can be selected from it.
 fn is_ranged(scope: &Scope, bound: Bound) -> bool
     requires { IsBoundIn scope.now bound }
-    ensures { (u : List ℕ) → result ≡ (named_in scope.now.vars u bound).ranged }
+    ensures { result ≡ (shape_of scope.now.vars bound).ranged }
 {
     match bound {
         Bound::Constant { .. } => true,
@@ -53,7 +48,7 @@ fn is_ranged(scope: &Scope, bound: Bound) -> bool
 /// Whether it is signed.
 fn is_signed(scope: &Scope, bound: Bound) -> bool
     requires { IsBoundIn scope.now bound }
-    ensures { (u : List ℕ) → result ≡ (named_in scope.now.vars u bound).signed }
+    ensures { result ≡ (shape_of scope.now.vars bound).signed }
 {
     match bound {
         Bound::Constant { value, .. } => value.signed,
@@ -64,7 +59,7 @@ fn is_signed(scope: &Scope, bound: Bound) -> bool
 /// The lowest position of its range.
 fn low_of(scope: &Scope, bound: Bound) -> u32
     requires { IsBoundIn scope.now bound }
-    ensures { (u : List ℕ) → result ≡ (named_in scope.now.vars u bound).low }
+    ensures { result ≡ (shape_of scope.now.vars bound).low }
 {
     match bound {
         Bound::Constant { low, .. } => low,
@@ -74,9 +69,7 @@ fn low_of(scope: &Scope, bound: Bound) -> u32
 
 /// The whole of it as a term.
 fn term_of(name: &Id, bound: Bound) -> Term
-    ensures term { (scope : Scope) (u : List ℕ) → IsBoundIn scope bound
-        → Has (widths_of scope.vars) u result (named_in scope.vars u bound).size (named_in scope.vars u bound).word }
-    ensures nodes { nodes_of result ≡ 1 }
+    ensures built { result ≡ spec.name_term name.now bound }
 {
     match bound {
         Bound::Constant { value, .. } => Term::Const(value.value),
@@ -91,9 +84,7 @@ fn term_of(name: &Id, bound: Bound) -> Term
 pub fn whole(scope: &Scope, name: &Id, bound: Bound) -> Measured
     requires scope { IsScope scope.now }
     requires bound { IsBoundIn scope.now bound }
-    ensures meaning { (u : List ℕ) → AreWordsIn scope.now u
-        → Stands (widths_of scope.now.vars) u result (spec.whole (named_in scope.now.vars u bound)) }
-    ensures weight { weight_of result.pending ≡ 2 }
+    ensures built { result ≡ spec.whole scope.now.vars name.now bound }
 {
     let term = term_of(name, bound);
     alone(width_of(scope, bound), term, is_signed(scope, bound))
@@ -111,11 +102,8 @@ fn pick(
     width: u32,
 ) -> Result<Measured, AllocError>
     requires { IsBoundIn scope.now bound }
-    ensures meaning { (u : List ℕ) (p : Meaning) → AreWordsIn scope.now u → IsWidth width
-        → Has (widths_of scope.now.vars) u at p.size (own p) → at_signed ≡ p.signed
-        → IfOk result (λ r. Stands (widths_of scope.now.vars) u r
-        (part (named_in scope.now.vars u bound) (lowest_from down width (number p)) width)) }
-    ensures weight { IfOk result (λ r. weight_of r.pending ≡ 3 + nodes_of at) }
+    ensures built { IfOk result (λ r.
+        r ≡ spec.picked scope.now.vars name.now bound at at_signed down width) }
 {
     let at = Boxed::new(alloc, at)?;
     let base = Boxed::new(alloc, term_of(name, bound))?;
@@ -141,10 +129,8 @@ fn pick_at(
     width: u32,
 ) -> Result<Measured, AllocError>
     requires { IsBoundIn scope.now bound }
-    ensures meaning { (u : List ℕ) (p : Meaning) → IsWidth width → Stands (widths_of scope.now.vars) u at p
-        → IfOk result (λ r. Stands (widths_of scope.now.vars) u r
-        (part (named_in scope.now.vars u bound) (lowest_from down width (number p)) width)) }
-    ensures weight { IfOk result (λ r. weight_of r.pending ≤ 3 + weight_of at.pending) }
+    ensures built { IfOk result (λ r.
+        r ≡ spec.picked scope.now.vars name.now bound (own_term at) at.signed down width) }
 {
     let signed = at.signed;
     let at = at.own(alloc)?;
@@ -160,9 +146,8 @@ fn taken_width(
     count: Word,
 ) -> Result<u32, WidthFault>
     requires { IsBoundIn scope.now bound }
-    ensures width { IfOk result IsWidth }
-    ensures told { (u : List ℕ) → Agrees (λ w n. w ≡ n) result
-        (taken_width (pos count) (named_in scope.now.vars u bound) name.now) }
+    ensures told { Agrees (λ w n. w ≡ n) result
+        (spec.taken_width (pos count) (shape_of scope.now.vars bound) name.now) }
 {
     if is_ranged(scope, bound) {
         part_width(alloc, name, count)
@@ -180,10 +165,7 @@ fn take_at(
     at: Measured,
 ) -> Result<Measured, WidthFault>
     requires { IsBoundIn scope.now bound }
-    ensures meaning { (u : List ℕ) (p : Meaning) → Stands (widths_of scope.now.vars) u at p
-        → Agrees (Stands (widths_of scope.now.vars) u) result
-        (spec.take (spec.At p) (named_in scope.now.vars u bound) name.now) }
-    ensures weight { IfOk result (λ r. weight_of r.pending ≤ 3 + weight_of at.pending) }
+    ensures built { Agrees (λ r m. r ≡ m) result (spec.take scope.now.vars name.now bound (taking.At at)) }
 {
     let width = taken_width(alloc, scope, name, bound, 1)?;
     Ok(pick_at(alloc, scope, name, bound, at, false, width)?)
@@ -199,10 +181,8 @@ fn take_part(
     low: Const,
 ) -> Result<Measured, WidthFault>
     requires { IsBoundIn scope.now bound }
-    ensures meaning { (u : List ℕ) (m l : Meaning) → AreWordsIn scope.now u → IsFound high m → IsFound low l
-        → Agrees (Stands (widths_of scope.now.vars) u) result
-        (spec.take (spec.DownTo m l) (named_in scope.now.vars u bound) name.now) }
-    ensures weight { IfOk result (λ r. weight_of r.pending ≡ 4) }
+    ensures built { Agrees (λ r m. r ≡ m) result
+        (spec.take scope.now.vars name.now bound (taking.DownTo high low)) }
 {
     let width = taken_width(alloc, scope, name, bound, span(high.number(), low.number()))?;
     let at = Term::Const(low.value);
@@ -220,10 +200,8 @@ fn take_from(
     down: bool,
 ) -> Result<Measured, WidthFault>
     requires { IsBoundIn scope.now bound }
-    ensures meaning { (u : List ℕ) (p n : Meaning) → Stands (widths_of scope.now.vars) u at p → IsFound width n
-        → Agrees (Stands (widths_of scope.now.vars) u) result
-        (spec.take (indexed down p n) (named_in scope.now.vars u bound) name.now) }
-    ensures weight { IfOk result (λ r. weight_of r.pending ≤ 3 + weight_of at.pending) }
+    ensures built { Agrees (λ r m. r ≡ m) result
+        (spec.take scope.now.vars name.now bound (indexed down at width)) }
 {
     let width = taken_width(alloc, scope, name, bound, width.number().count())?;
     Ok(pick_at(alloc, scope, name, bound, at, down, width)?)
@@ -238,11 +216,7 @@ pub fn take(
     taking: Taking,
 ) -> Result<Measured, WidthFault>
     requires { IsBoundIn scope.now bound }
-    ensures meaning { (u : List ℕ) (positions : spec.Positions) → AreWordsIn scope.now u
-        → ArePositions (widths_of scope.now.vars) u taking positions
-        → Agrees (Stands (widths_of scope.now.vars) u) result
-        (spec.take positions (named_in scope.now.vars u bound) name.now) }
-    ensures weight { IfOk result (λ r. weight_of r.pending ≤ 4 + taking_weight taking) }
+    ensures built { Agrees (λ r m. r ≡ m) result (spec.take scope.now.vars name.now bound taking) }
 {
     match taking {
         Taking::At(at) => take_at(alloc, scope, name, bound, at),

@@ -1,8 +1,7 @@
 //! Terms in their context.
 
-ghost use Rattle.std.specs.Prelude.{◌≡◌, ◌≤◌, ◌+◌, IfOk};
-ghost use Rattle.width_rules.specs.Nodes.{nodes_of};
-ghost use Rattle.width_rules.specs.code.Waiting.{term_in, own_term, holds_term, weight_of};
+ghost use Rattle.std.specs.Prelude.{◌≡◌, IfOk};
+ghost use Rattle.width_rules.specs.Waiting.{term_in, own_term, holds_term};
 
 use crate::building::{change_by, choice_of, combined_to, extended_to, one_of, shift_by, two_of};
 use crate::measured::Measured;
@@ -14,7 +13,6 @@ use std::alloc::{AllocError, Global};
 /// The term of a pending one in a context of this size and sign. It takes time and memory in the number of its nodes.
 pub fn settle(alloc: Global, pending: Pending, size: u32, signed: bool) -> Result<Term, AllocError>
     ensures term { IfOk result (λ t. t ≡ term_in pending size signed) }
-    ensures nodes { IfOk result (λ t. nodes_of t ≤ weight_of pending) }
 {
     match pending {
         Pending::Alone(width, term) => extended_to(alloc, size, signed, width, term),
@@ -44,7 +42,6 @@ impl Measured {
     /// The term by itself.
     pub fn own(self, alloc: Global) -> Result<Term, AllocError>
         ensures term { IfOk result (λ t. t ≡ own_term self) }
-        ensures nodes { IfOk result (λ t. nodes_of t ≤ weight_of self.pending) }
     {
         settle(alloc, self.pending, self.size, self.signed)
     }
@@ -52,7 +49,6 @@ impl Measured {
     /// A bit that says whether the value by itself is not 0.
     pub fn holds(self, alloc: Global) -> Result<Term, AllocError>
         ensures term { IfOk result (λ t. t ≡ holds_term self) }
-        ensures nodes { IfOk result (λ t. nodes_of t ≤ 1 + weight_of self.pending) }
     {
         let own = self.own(alloc)?;
         one_of(alloc, Op::RedOr, 1, own)

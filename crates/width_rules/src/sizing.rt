@@ -1,15 +1,17 @@
 //! The call of this crate.
 
-ghost use Rattle.std.specs.Prelude.{◌≡◌, ◌≤◌, ◌+◌, ◌*◌, ◌&&◌, not, ℕ, List, IfOk, IfErr, IfSome, Err};
+ghost use Rattle.std.specs.Prelude.{◌≡◌, ◌≤◌, ◌*◌, ◌&&◌, not, ℕ, List, IfOk, IfErr, IfSome, Err};
 ghost use Rattle.bit_ops.specs.Width.{IsWidth};
 ghost use Rattle.sv_base.specs.Faults.{IfRefused};
 ghost use Rattle.net_ir.specs.Value.{widths_of};
 ghost use Rattle.net_ir.specs.Lawful.{IsLawful};
 ghost use Rattle.width_rules.specs.Scope.{IsScope, AreWordsIn, meaning_in};
 ghost use Rattle.width_rules.specs.Sized.{IsSized};
+ghost use Rattle.const_eval.specs.Env.{bound_of};
+ghost use Rattle.const_eval.specs.code.Agreeing.{Agrees};
+ghost use Rattle.width_rules.specs.Built.{term_of};
 ghost use Rattle.width_rules.specs.Nodes.{nodes_of, parts_of};
-ghost use Rattle.width_rules.specs.code.Waiting.{weight_of};
-ghost use Rattle.width_rules.specs.code.Assigning.{context_size, assigned_term};
+ghost use Rattle.width_rules.specs.Assigning.{context_size, assigned_term};
 
 use crate::building::cut_to;
 use crate::fault::WidthFault;
@@ -38,21 +40,40 @@ fn is_context_signed(unsigned: bool, signed: bool) -> bool
     !unsigned && signed
 }
 
-/// What was measured, as the term that is assigned to a target.
-fn assigned(
+impl Measured {
+    /// The term that is assigned to a target of this width, or of its own size where none is told, in an unsigned
+    /// context where that is asked for, else in one of its own sign.
+    pub fn assigned(
+        self,
+        alloc: Global,
+        target: Option<u32>,
+        unsigned: bool,
+    ) -> Result<Term, AllocError>
+        ensures term { IfOk result (λ t. t ≡ assigned_term self target unsigned) }
+    {
+        let own = self.size;
+        let size = context_size(target, own);
+        let signed = is_context_signed(unsigned, self.signed);
+        let term = settle(alloc, self.pending, size, signed)?;
+        cut_to(alloc, target.unwrap_or(own), size, term)
+    }
+}
+
+/// The term of an expression with its sign.
+fn termed(
     alloc: Global,
-    measured: Measured,
+    e: &Expr,
+    scope: &Scope,
     target: Option<u32>,
     unsigned: bool,
-) -> Result<Term, AllocError>
-    ensures term { IfOk result (λ t. t ≡ assigned_term measured target unsigned) }
-    ensures nodes { IfOk result (λ t. nodes_of t ≤ 1 + weight_of measured.pending) }
+) -> Result<(Term, bool), WidthFault>
+    requires { IsScope scope.now }
+    ensures built { Agrees (λ answer told. answer ≡ told) result
+        (term_of (bound_of scope.now.names) scope.now.vars target unsigned e.now) }
 {
-    let own = measured.size;
-    let size = context_size(target, own);
-    let signed = is_context_signed(unsigned, measured.signed);
-    let term = settle(alloc, measured.pending, size, signed)?;
-    cut_to(alloc, target.unwrap_or(own), size, term)
+    let measured = measure(alloc, scope, e)?;
+    let signed = measured.signed;
+    Ok((measured.assigned(alloc, target, unsigned)?, signed))
 }
 
 /// The term of an expression with every size and sign decided, and the expression's own sign (IEEE 1800-2017, 11.6
@@ -78,10 +99,9 @@ pub fn sized(
     ensures refused { (u : List ℕ) → AreWordsIn scope.now u
         → IfErr result (IfRefused (λ refusal. meaning_in scope.now u e.now ≡ Err refusal)) }
     ensures nodes { IfOk result (λ answer. nodes_of answer.0 ≤ 6 * parts_of e.now) }
+    ensures built { Agrees (λ answer told. answer ≡ told) result
+        (term_of (bound_of scope.now.names) scope.now.vars target unsigned e.now) }
 {
-    net_ir::law::lawful_values();
-    bit_ops::laws::extension_then_cut();
-    let measured = measure(alloc, scope, e)?;
-    let signed = measured.signed;
-    Ok((assigned(alloc, measured, target, unsigned)?, signed))
+    crate::law::terms();
+    termed(alloc, e, scope, target, unsigned)
 }

@@ -13,7 +13,7 @@ use Rattle.width_rules.specs.declared.joined.Joined.{Joined}
 use Rattle.width_rules.specs.declared.joined.Joined.TheVariants.{Nothing, Whole, TooWide}
 use Rattle.width_rules.specs.declared.taking.Taking.{Taking}
 use Rattle.width_rules.specs.declared.taking.Taking.TheVariants as taking
-use Rattle.width_rules.specs.code.Waiting.{term_in}
+use Rattle.width_rules.specs.Waiting.{term_in}
 
 -- what was measured has the size and the sign of a meaning, and in each context a term of its value, on the valuation u
 pub record Stands (ws u : List ℕ) (m : Measured) (meaning : Meaning) : Type 0 where

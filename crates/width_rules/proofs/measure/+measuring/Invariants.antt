@@ -1,14 +1,10 @@
-use Rattle.std.proofs.Common.{ℕ, ◌+◌, ◌*◌, ◌≤◌, List, drop, map}
-use Rattle.net_ir.specs.Value.{widths_of}
-use Rattle.width_rules.specs.Scope.{names_in, AreWordsIn}
-use Rattle.width_rules.specs.Nodes.{sum_of, parts_of}
-use Rattle.width_rules.specs.code.Joining.{joined_nodes}
-use Rattle.width_rules.proofs.Parts.{Joins}
+use Rattle.std.proofs.Common.{◌≡◌, drop, map}
+use Rattle.const_eval.specs.Env.{bound_of}
+use Rattle.width_rules.specs.declared.joined.Joined.TheVariants.{Nothing}
+use Rattle.width_rules.specs.Built.{built_of, joined_after}
 use Rattle.width_rules.proofs.measure.+measuring.Given as goal
 
--- what was joined, with the parts that are left, is what the parts are, and has few nodes
+-- what was joined, with the parts that are left, is what the parts are
 abbrev pub invariant-join-loop-part : goal.invariant-join-loop-part
-invariant-join-loop-part l = record {
-  joins : (u : List ℕ) → AreWordsIn l.scope u → Joins (widths_of l.scope.vars) u (names_in l.scope u) l.joined (drop l.part-index l.parts) l.parts;
-  nodes : joined_nodes l.joined + 6 * sum_of (map parts_of (drop l.part-index l.parts)) ≤ 6 * sum_of (map parts_of l.parts);
-}
+invariant-join-loop-part l =
+    joined_after Nothing (map (built_of (bound_of l.scope.names) l.scope.vars) l.parts) ≡ joined_after l.joined (map (built_of (bound_of l.scope.names) l.scope.vars) (drop l.part-index l.parts))

@@ -1,17 +1,35 @@
-use Rattle.std.proofs.Common.{[]}
+use Rattle.std.proofs.Common.{◌≤◌, ◌*◌}
+use Rattle.const_eval.specs.Env.{bound_of}
 use Rattle.net_ir.specs.Value.{widths_of}
+use Rattle.net_ir.specs.Lawful.{IsLawful}
 use Rattle.width_rules.specs.Scope.{meaning_in}
-use Rattle.width_rules.proofs.Sizings.{no_words, is_lawful, is_sized}
+use Rattle.width_rules.specs.Nodes.{nodes_of, parts_of}
+use Rattle.width_rules.specs.Built.{term_of}
+use Rattle.width_rules.proofs.Sizings.{Answers, ok_told, sized_told, refused_told}
 use Rattle.width_rules.proofs.sizing.sized.Goals as goal
 
 pub returns-clause-lawful : goal.returns-clause-lawful
 returns-clause-lawful c =
     let scope = c.args.scope.now in
-    is_lawful c.lawful_values.ensures c.extension_then_cut.ensures.cut (widths_of scope.vars) [] c.in_ok-measured.measured c.args.target c.args.unsigned (meaning_in scope [] c.args.e.now)
-    c.in_ok-assigned.field-0 c.in_ok-assigned.ensures.term c.requires.target (c.in_ok-measured.ensures.meaning [] (no_words scope c.requires.scope))
+    ok_told (λ answer. IsLawful (widths_of scope.vars) answer.0) c.termed.result (term_of (bound_of scope.names) scope.vars c.args.target c.args.unsigned c.args.e.now) c.termed.ensures.built
+    (c.terms.ensures.lawful scope c.args.target c.args.unsigned c.args.e.now c.requires.scope c.requires.target)
 
 pub returns-clause-sized : goal.returns-clause-sized
 returns-clause-sized c = λ u words.
     let scope = c.args.scope.now in
-    is_sized c.lawful_values.ensures c.extension_then_cut.ensures.cut (widths_of scope.vars) u c.in_ok-measured.measured c.args.target c.args.unsigned (meaning_in scope u c.args.e.now)
-    c.in_ok-assigned.field-0 c.in_ok-assigned.ensures.term c.requires.target (c.in_ok-measured.ensures.meaning u words)
+    sized_told (widths_of scope.vars) u c.args.target c.args.unsigned c.termed.result (term_of (bound_of scope.names) scope.vars c.args.target c.args.unsigned c.args.e.now)
+    (meaning_in scope u c.args.e.now) c.termed.ensures.built
+    (c.terms.ensures.sized scope u c.args.target c.args.unsigned c.args.e.now c.requires.scope c.requires.target words)
+
+pub returns-clause-refused : goal.returns-clause-refused
+returns-clause-refused c = λ u words.
+    let scope = c.args.scope.now in
+    refused_told (Answers (widths_of scope.vars) u c.args.target c.args.unsigned) c.termed.result (term_of (bound_of scope.names) scope.vars c.args.target c.args.unsigned c.args.e.now)
+    (meaning_in scope u c.args.e.now) c.termed.ensures.built
+    (c.terms.ensures.sized scope u c.args.target c.args.unsigned c.args.e.now c.requires.scope c.requires.target words)
+
+pub returns-clause-nodes : goal.returns-clause-nodes
+returns-clause-nodes c =
+    let scope = c.args.scope.now in
+    ok_told (λ answer. nodes_of answer.0 ≤ 6 * parts_of c.args.e.now) c.termed.result (term_of (bound_of scope.names) scope.vars c.args.target c.args.unsigned c.args.e.now) c.termed.ensures.built
+    (c.terms.ensures.nodes (bound_of scope.names) scope.vars c.args.target c.args.unsigned c.args.e.now)

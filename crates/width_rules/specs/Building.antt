@@ -1,5 +1,5 @@
 -- Terms of operations.
-use Rattle.std.specs.Prelude.{ℕ, Bool, ◌==◌, List, [], ◌∷◌, if◌then◌else◌}
+use Rattle.std.specs.Prelude.{ℕ, Bool, ◌==◌, [], ◌∷◌, if◌then◌else◌}
 use Rattle.bit_ops.specs.declared.operation.Op.{Op}
 use Rattle.bit_ops.specs.declared.operation.Op.TheVariants as op
 use Rattle.const_eval.specs.declared.pending.Change.{Change}

@@ -2,8 +2,8 @@
 use Rattle.std.specs.Prelude.{ℕ, Bool, not, ◌&&◌, max, Option, None, Some, unwrap_or}
 use Rattle.net_ir.specs.declared.term.Term.{Term}
 use Rattle.width_rules.specs.declared.measured.Measured.{Measured}
-use Rattle.width_rules.specs.code.Building.{cut_to}
-use Rattle.width_rules.specs.code.Waiting.{term_in}
+use Rattle.width_rules.specs.Building.{cut_to}
+use Rattle.width_rules.specs.Waiting.{term_in}
 
 -- the size at which an expression of a size is taken where it has this target
 abbrev pub context_size : Option ℕ → ℕ → ℕ
