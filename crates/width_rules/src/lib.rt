@@ -18,7 +18,6 @@ mod sizing;
 mod taking;
 
 pub use fault::WidthFault;
-pub use measure::measure;
 pub use measured::Measured;
 pub use scope::Scope;
-pub use sizing::sized;
+pub use sizing::{sized, sized_alone};

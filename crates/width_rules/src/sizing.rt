@@ -9,7 +9,7 @@ ghost use Rattle.width_rules.specs.Scope.{IsScope, AreWordsIn, meaning_in};
 ghost use Rattle.width_rules.specs.Sized.{IsSized};
 ghost use Rattle.const_eval.specs.Env.{bound_of};
 ghost use Rattle.const_eval.specs.code.Agreeing.{Agrees};
-ghost use Rattle.width_rules.specs.Built.{term_of};
+ghost use Rattle.width_rules.specs.Built.{measured_of, term_of};
 ghost use Rattle.width_rules.specs.Nodes.{nodes_of, parts_of};
 ghost use Rattle.width_rules.specs.Assigning.{context_size, assigned_term};
 
@@ -57,6 +57,16 @@ impl Measured {
         let term = settle(alloc, self.pending, size, signed)?;
         cut_to(alloc, target.unwrap_or(own), size, term)
     }
+}
+
+/// What an expression is by itself, its size and its sign, with a term that waits for its context; or its first
+/// refusal, as `sized` has it. Takes time linear in the expression.
+pub fn sized_alone(alloc: Global, e: &Expr, scope: &Scope) -> Result<Measured, WidthFault>
+    requires { IsScope scope.now }
+    ensures built { Agrees (λ found told. found ≡ told) result
+        (measured_of (bound_of scope.now.names) scope.now.vars e.now) }
+{
+    measure(alloc, scope, e)
 }
 
 /// The term of an expression with its sign.

@@ -1,0 +1,10 @@
+use Rattle.std.proofs.Common.{◌≡◌, ◌++◌, length}
+use Rattle.net_ir.specs.code.Classing.{outputs_read}
+use Rattle.clock_domains.proofs.listing.list_outputs.Given as goal
+
+-- those that are listed and those of the rest are all
+abbrev pub invariant-loop-rest : goal.invariant-loop-rest
+invariant-loop-rest l = l.reads.items ++ outputs_read l.rest ≡ l.fn.reads.items ++ outputs_read l.outputs
+
+abbrev pub decreases-loop-rest : goal.decreases-loop-rest
+decreases-loop-rest l = length l.rest

@@ -1,0 +1,9 @@
+pub mod Firsts
+pub mod Opened
+pub mod Sizes
+pub mod Places
+pub mod Layers
+pub mod LawfulParts
+pub mod Takings
+pub mod PortOrder
+pub mod Bits
