@@ -4,7 +4,6 @@ pub mod Grammar
 pub mod Outcome
 pub mod Input
 pub mod Reading
-pub mod Header
 pub mod Readers
 pub mod Nests
 pub mod Parts

@@ -4,7 +4,6 @@
 mod bracket;
 mod cursor;
 mod declaration;
-mod header;
 mod instance;
 mod item;
 mod kept;
@@ -19,6 +18,5 @@ mod statement;
 mod target;
 mod words;
 
-pub use header::{Entry, EntryKind, Port, entries_of, ports_of};
 pub use law::{not_both, one_file, one_reading, one_refusal};
 pub use parser::parse_file;

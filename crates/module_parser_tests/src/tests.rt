@@ -1,5 +1,6 @@
 use expr_parser::ParseFault;
-use module_parser::{EntryKind, entries_of, parse_file, ports_of};
+use module_header::{EntryKind, entries_of, ports_of};
+use module_parser::parse_file;
 use std::alloc::{AllocError, Global};
 use std::process::Abort;
 use std::test::Fail;

@@ -1,7 +1,7 @@
 use Rattle.std.proofs.Common.{◌≡◌, ◌++◌, map, length}
 use Rattle.std.specs.Option.{option_copied}
-use Rattle.module_parser.specs.Header as spec
-use Rattle.module_parser.proofs.header.entries_of.Given as goal
+use Rattle.module_header.specs.Header as spec
+use Rattle.module_header.proofs.header.entries_of.Given as goal
 
 -- those that were found and those behind them are all
 abbrev pub invariant-loop-rest : goal.invariant-loop-rest

@@ -7,10 +7,10 @@ use Rattle.sv_ast.specs.declared.expression.Expr.{Expr}
 use Rattle.sv_ast.specs.declared.item.Shape.{Shape}
 use Rattle.sv_ast.specs.declared.module.Param.{Param}
 use Rattle.sv_ast.specs.declared.module.PortDecl.{PortDecl}
-use Rattle.module_parser.specs.declared.header.EntryKind.{EntryKind}
-use Rattle.module_parser.specs.declared.header.EntryKind.TheVariants as kinds
-use Rattle.module_parser.specs.declared.header.Entry.{Entry}
-use Rattle.module_parser.specs.declared.header.Port.{Port}
+use Rattle.module_header.specs.declared.header.EntryKind.{EntryKind}
+use Rattle.module_header.specs.declared.header.EntryKind.TheVariants as kinds
+use Rattle.module_header.specs.declared.header.Entry.{Entry}
+use Rattle.module_header.specs.declared.header.Port.{Port}
 
 -- no word
 abbrev pub is_nil : List Id → Bool

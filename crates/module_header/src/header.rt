@@ -2,7 +2,7 @@
 
 ghost use Rattle.std.specs.Prelude.{◌≡◌, map, IfOk};
 ghost use Rattle.std.specs.Option.{option_copied};
-ghost use Rattle.module_parser.specs.Header as spec;
+ghost use Rattle.module_header.specs.Header as spec;
 
 use std::alloc::{AllocError, Global};
 use sv_ast::{Expr, Id, Param, PortDecl, Shape};
