@@ -1,0 +1,10 @@
+pub mod Assigned
+pub mod Behind
+pub mod Declared
+pub mod Labels
+pub mod Parts
+pub mod Selects
+pub mod Sequences
+pub mod Turns
+pub mod Values
+pub mod Visible

@@ -1,0 +1,9 @@
+pub mod Names
+pub mod Refusals
+pub mod Reached
+pub mod Extent
+pub mod Declaration
+pub mod Targets
+pub mod Statements
+pub mod Items
+pub mod code
