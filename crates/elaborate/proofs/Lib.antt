@@ -2,9 +2,16 @@ pub mod Assigned
 pub mod Behind
 pub mod Declared
 pub mod Labels
+pub mod LawfulDeclared
+pub mod LawfulItems
+pub mod LawfulStatements
+pub mod LawfulTargets
+pub mod LawfulVars
 pub mod Parts
+pub mod PortsFirst
 pub mod Selects
 pub mod Sequences
+pub mod SoFar
 pub mod Turns
 pub mod Values
 pub mod Visible

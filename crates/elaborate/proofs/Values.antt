@@ -22,7 +22,7 @@ use Rattle.width_rules.specs.Values.{bits_where, bits_of, const_of}
 wide_test : (w : ℕ) → IsWidth w → is_width w ≡ true
 wide_test w wide = and_from (nat_le 1 w) (nat_le w MAX_WIDTH) (le-leb 1 w wide.0) (le-leb w MAX_WIDTH wide.1)
 
-bits_width : (w a : ℕ) → IsWidth w → (bits_of w a).width ≡ w
+pub bits_width : (w a : ℕ) → IsWidth w → (bits_of w a).width ≡ w
 bits_width w a wide = by_test (is_width w) refl where
   by_test : (b : Bool) (is : is_width w ≡ b) → (bits_where w a b is).width ≡ w
   by_test true is = refl

@@ -6,6 +6,7 @@ mod declaration;
 mod expression;
 mod extent;
 mod item;
+pub mod law;
 mod limits;
 mod names;
 mod refusal;

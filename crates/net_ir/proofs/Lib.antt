@@ -4,3 +4,5 @@ pub mod Benches
 pub mod Marking
 pub mod Worked
 mod Values
+pub mod Parts
+pub mod More

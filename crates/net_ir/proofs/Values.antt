@@ -17,14 +17,10 @@ use Rattle.net_ir.specs.declared.term.Term.TheVariants.{rolls-Const, rolls-Read,
 use Rattle.net_ir.specs.declared.term.Term.TheFolds.{map-Term, ind-Term, every_here-Term, every_held-Term}
 use Rattle.net_ir.specs.Value.{AreWordsOf, bits_from, lowest_from, whole_number, operand_of, size, val}
 use Rattle.net_ir.specs.Lawful.{IsLawfulLayer, IsLawful}
+use Rattle.net_ir.proofs.Parts.{all_held}
 use Rattle.net_ir.specs.Terms.{width_is_size, operand_const, operand_read, operand_pick, operand_apply}
 
 -- ---- lists
-
--- elements that carry a fact of themselves
-all_held : {X : Type 0} (P : X → Type 0) (held : List ((x : X) × P x)) → AllByRecursion P (map (λ e. e.0) held)
-all_held P [] = tt
-all_held P (e ∷ held) = (e.1, all_held P held)
 
 all_both : {X : Type 0} (P Q R : X → Type 0) → ((x : X) → P x → Q x → R x) → (xs : List X) → AllByRecursion P xs → AllByRecursion Q xs → AllByRecursion R xs
 all_both P Q R step [] p q = tt
@@ -39,10 +35,10 @@ sizes_from_operands ws u (a ∷ args) =
 
 -- ---- what is lawful of it
 
-lawful_read : (ws : List ℕ) (var : ℕ) (place : Place) → IsLawful ws (Read var place) → var < length ws
+pub lawful_read : (ws : List ℕ) (var : ℕ) (place : Place) → IsLawful ws (Read var place) → var < length ws
 lawful_read ws var place lawful = subst (IsLawfulLayer ws) (outs-Read var place) (every_here-Term (IsLawfulLayer ws) (Read var place) lawful)
 
-lawful_apply : (ws : List ℕ) (op : Op) (width lo : ℕ) (args : List Term) → IsLawful ws (Apply op width lo args) →
+pub lawful_apply : (ws : List ℕ) (op : Op) (width lo : ℕ) (args : List Term) → IsLawful ws (Apply op width lo args) →
     IsWidth width × WidthsFit op width lo (map (size ws) args)
 lawful_apply ws op width lo args lawful =
     subst (IsLawfulLayer ws) (outs-Apply op width lo args) (every_here-Term (IsLawfulLayer ws) (Apply op width lo args) lawful)
@@ -55,7 +51,7 @@ held_args ws op width lo args (layer.Read var place) is = absurd (cc)
 held_args ws op width lo args (layer.Pick base low at at_signed down n) is = absurd (cc)
 held_args ws op width lo args (layer.Apply op' width' lo' held) is = (held, cc)
 
-lawful_args : (ws : List ℕ) (op : Op) (width lo : ℕ) (args : List Term) → IsLawful ws (Apply op width lo args) → AllByRecursion (IsLawful ws) args
+pub lawful_args : (ws : List ℕ) (op : Op) (width lo : ℕ) (args : List Term) → IsLawful ws (Apply op width lo args) → AllByRecursion (IsLawful ws) args
 lawful_args ws op width lo args lawful =
     let all = every_held-Term (IsLawfulLayer ws) (Apply op width lo args) lawful in
     let held = held_args ws op width lo args all.0 (all.1 ∙ outs-Apply op width lo args) in

@@ -1,4 +1,4 @@
--- What names stand for in a scope.
+-- What names stand for.
 use Rattle.std.proofs.Common.{◌≡◌, ℕ, zero, suc, ◌<◌, Bool, false, List, [], ◌∷◌, length, Option, None, Some, refl, sym, ap, subst, arith}
 use Rattle.std.specs.Prelude.{slice_get, slice_index, pos, ◌-ℤ◌}
 use Rattle.std.specs.List.{AllByRecursion}
@@ -13,10 +13,9 @@ use Rattle.const_eval.specs.declared.env.Bound.{Bound}
 use Rattle.const_eval.specs.declared.env.Bound.TheVariants.{Constant, Variable}
 use Rattle.const_eval.specs.Meaning.{Meaning, own, number, alone}
 use Rattle.const_eval.specs.Selects.{Named, bits_from, part}
-use Rattle.width_rules.specs.declared.scope.Scope.{Scope}
 use Rattle.width_rules.specs.declared.measured.Measured.{Measured}
 use Rattle.width_rules.specs.code.Standing.{Stands}
-use Rattle.width_rules.specs.Scope.{variable_named, named_in, IsScope, IsBoundIn}
+use Rattle.width_rules.specs.Scope.{variable_named, named_in, IsAmong}
 
 -- a variable that is there
 pub var_at : (vars : List Var) (x : ℕ) → x < length vars → (v : Var) × (slice_get vars x ≡ Some v)
@@ -30,14 +29,14 @@ width_at (w ∷ vars) zero v is = let same : Some w ≡ Some v = is in let one :
 width_at (w ∷ vars) (suc x) v is = width_at vars x v is
 
 -- a read of a variable has its size and its word
-pub variable_has : (scope : Scope) (u : List ℕ) (x : ℕ) (place : Place) → x < length scope.vars →
-    Has (widths_of scope.vars) u (Read x place) (named_in scope.vars u (Variable x)).size (named_in scope.vars u (Variable x)).word
-variable_has scope u x place there =
-    let found = var_at scope.vars x there in
-    let read : Has (widths_of scope.vars) u (Read x place) found.0.width (slice_index u x) =
-    subst (λ n. Has (widths_of scope.vars) u (Read x place) n (slice_index u x)) (width_at scope.vars x found.0 found.1)
-    (has_read (widths_of scope.vars) u x place (subst (λ n. x < n) (sym (length-map scope.vars (λ (v : Var). v.width))) there)) in
-    subst (λ (o : Option Var). Has (widths_of scope.vars) u (Read x place) (variable_named o (slice_index u x)).size (variable_named o (slice_index u x)).word) (sym found.1) read
+pub variable_has : (vars : List Var) (u : List ℕ) (x : ℕ) (place : Place) → x < length vars →
+    Has (widths_of vars) u (Read x place) (named_in vars u (Variable x)).size (named_in vars u (Variable x)).word
+variable_has vars u x place there =
+    let found = var_at vars x there in
+    let read : Has (widths_of vars) u (Read x place) found.0.width (slice_index u x) =
+    subst (λ n. Has (widths_of vars) u (Read x place) n (slice_index u x)) (width_at vars x found.0 found.1)
+    (has_read (widths_of vars) u x place (subst (λ n. x < n) (sym (length-map vars (λ (v : Var). v.width))) there)) in
+    subst (λ (o : Option Var). Has (widths_of vars) u (Read x place) (variable_named o (slice_index u x)).size (variable_named o (slice_index u x)).word) (sym found.1) read
 
 -- what is bound has a width that a value may have
 width_of_all : (vars : List Var) (x : ℕ) (v : Var) → AllByRecursion (λ (v : Var). IsWidth v.width) vars → slice_get vars x ≡ Some v → IsWidth v.width
@@ -45,11 +44,11 @@ width_of_all [] x v all is = absurd (let clash : None ≡ Some v = is in cc)
 width_of_all (w ∷ vars) zero v all is = let same : Some w ≡ Some v = is in let one : w ≡ v = cc in subst (λ (y : Var). IsWidth y.width) one all.0
 width_of_all (w ∷ vars) (suc x) v all is = width_of_all vars x v all.1 is
 
-pub bound_wide : (scope : Scope) (u : List ℕ) (bound : Bound) → IsScope scope → IsBoundIn scope bound → IsWidth (named_in scope.vars u bound).size
-bound_wide scope u (Constant value low) lawful there = (value.value.positive, value.value.within)
-bound_wide scope u (Variable x) lawful there =
-    let found = var_at scope.vars x there in
-    subst (λ (o : Option Var). IsWidth (variable_named o (slice_index u x)).size) (sym found.1) (width_of_all scope.vars x found.0 lawful.widths found.1)
+pub bound_wide : (vars : List Var) (u : List ℕ) (bound : Bound) → AllByRecursion (λ (v : Var). IsWidth v.width) vars → IsAmong vars bound → IsWidth (named_in vars u bound).size
+bound_wide vars u (Constant value low) wide there = (value.value.positive, value.value.within)
+bound_wide vars u (Variable x) wide there =
+    let found = var_at vars x there in
+    subst (λ (o : Option Var). IsWidth (variable_named o (slice_index u x)).size) (sym found.1) (width_of_all vars x found.0 wide found.1)
 
 -- so many bits of a name
 pub pick_stands : (ws u : List ℕ) (r : Measured) (n : Named) (p : Meaning) (down : Bool) (width : ℕ) (base : Term) (low : ℕ) (at : Term) (at_signed : Bool) →

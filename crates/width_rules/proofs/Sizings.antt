@@ -1,5 +1,5 @@
 -- What is answered of an expression.
-use Rattle.std.proofs.Common.{◌≡◌, ℕ, zero, suc, ◌+◌, ◌*◌, ◌≤◌, ◌<◌, ◌^◌, Bool, not, ◌&&◌, List, [], Option, Result, Ok, Err, refl, sym, ◌∙◌, ap, subst, arith}
+use Rattle.std.proofs.Common.{◌≡◌, ℕ, zero, suc, ◌+◌, ◌*◌, ◌≤◌, ◌<◌, ◌^◌, Bool, not, ◌&&◌, List, [], Option, None, Some, Result, Ok, Err, refl, sym, ◌∙◌, ap, subst, arith}
 use Rattle.std.specs.Prelude.{IfOk, IfErr, IfSome, slice_index, unwrap_or}
 use Rattle.std.proofs.lemmas.Nat.{pow_pos}
 use Rattle.bit_ops.specs.Width.{IsWidth}
@@ -10,7 +10,7 @@ use Rattle.sv_base.specs.Faults.{IfRefused}
 use Rattle.sv_ast.specs.declared.expression.Expr.{Expr}
 use Rattle.net_ir.specs.declared.design.Var.{Var}
 use Rattle.net_ir.specs.declared.term.Term.{Term}
-use Rattle.net_ir.specs.Value.{widths_of}
+use Rattle.net_ir.specs.Value.{widths_of, size, AreWordsOf}
 use Rattle.net_ir.specs.Lawful.{IsLawful}
 use Rattle.net_ir.specs.Terms.{Has}
 use Rattle.const_eval.specs.Env.{bound_of}
@@ -21,8 +21,8 @@ use Rattle.const_eval.specs.code.Agreeing.{Agrees}
 use Rattle.const_eval.proofs.Judged.{ok_behind}
 use Rattle.width_rules.specs.declared.measured.Measured.{Measured}
 use Rattle.width_rules.specs.declared.scope.Scope.{Scope}
-use Rattle.width_rules.specs.Scope.{IsScope, AreWordsIn, meaning_in}
-use Rattle.width_rules.specs.Sized.{IsSizedTerm, IsSized}
+use Rattle.width_rules.specs.Scope.{AreThere, IsScope, AreWordsIn, meaning_by, meaning_in}
+use Rattle.width_rules.specs.Sized.{IsSizedTerm, IsSized, IsMeasuredIn}
 use Rattle.width_rules.specs.Nodes.{nodes_of, parts_of}
 use Rattle.width_rules.specs.Waiting.{term_in}
 use Rattle.width_rules.specs.Assigning.{context_size, assigned_term}
@@ -41,8 +41,8 @@ zero_word : (x : ℕ) → slice_index [] x ≡ 0
 zero_word zero = refl
 zero_word (suc x) = refl
 
-no_words : (scope : Scope) → IsScope scope → AreWordsIn scope []
-no_words scope lawful x within = subst (λ n. n < 2 ^ slice_index (widths_of scope.vars) x) (sym (zero_word x)) (pow_pos (slice_index (widths_of scope.vars) x))
+no_words : (ws : List ℕ) → AreWordsOf ws []
+no_words ws x within = subst (λ n. n < 2 ^ slice_index ws x) (sym (zero_word x)) (pow_pos (slice_index ws x))
 
 -- an answer has the size, the value and the sign of a meaning
 abbrev pub Answers : List ℕ → List ℕ → Option ℕ → Bool → Term × Bool → Meaning → Type 0
@@ -75,13 +75,37 @@ module _ (law : ValuesFit) (word : WordsOfSigned) (sizes : ExpressionsSized) (cu
   pub terms_sized : (scope : Scope) (u : List ℕ) (target : Option ℕ) (unsigned : Bool) (e : Expr) → IsScope scope → IfSome target IsWidth → AreWordsIn scope u →
       Alike (Answers (widths_of scope.vars) u target unsigned) (term_of (bound_of scope.names) scope.vars target unsigned e) (meaning_in scope u e)
   terms_sized scope u target unsigned e lawful wide words =
-      answered (widths_of scope.vars) u target unsigned wide (measured_of (bound_of scope.names) scope.vars e) (meaning_in scope u e) (stood law word sizes scope lawful u words e)
+      answered (widths_of scope.vars) u target unsigned wide (measured_of (bound_of scope.names) scope.vars e) (meaning_in scope u e) (stood law word sizes (bound_of scope.names) scope.vars lawful u words e)
 
   pub terms_lawful : (scope : Scope) (target : Option ℕ) (unsigned : Bool) (e : Expr) → IsScope scope → IfSome target IsWidth →
       IfOk (term_of (bound_of scope.names) scope.vars target unsigned e) (λ answer. IsLawful (widths_of scope.vars) answer.0)
   terms_lawful scope target unsigned e lawful wide =
       lawfully (widths_of scope.vars) [] target unsigned wide (measured_of (bound_of scope.names) scope.vars e) (meaning_in scope [] e)
-      (stood law word sizes scope lawful [] (no_words scope lawful) e)
+      (stood law word sizes (bound_of scope.names) scope.vars lawful [] (no_words (widths_of scope.vars)) e)
+
+  -- ---- what was measured
+
+  measured_size : (ws u : List ℕ) (m : Measured) (a : Meaning) (target : Option ℕ) (unsigned : Bool) → Stands ws u m a →
+      Has ws u (assigned_term m target unsigned) (assigned_size target a) (assigned target unsigned a) → size ws (assigned_term m target unsigned) ≡ unwrap_or target m.size
+  measured_size ws u m a None unsigned h has = has.size ∙ sym h.size
+  measured_size ws u m a (Some n) unsigned h has = has.size
+
+  measured_in : (ws u : List ℕ) (m : Measured) (a : Meaning) → Stands ws u m a → IsMeasuredIn ws m
+  measured_in ws u m a h = record {
+    width = subst IsWidth (sym h.size) h.width;
+    lawful = λ target unsigned wide. (assigned_has law cut ws u m a target unsigned h wide).lawful;
+    sized = λ target unsigned wide. measured_size ws u m a target unsigned h (assigned_has law cut ws u m a target unsigned h wide);
+  }
+
+  all_measured : (ws u : List ℕ) (measured : Result Measured Refusal) (judged : Judged) → Alike (Stands ws u) measured judged → IfOk measured (IsMeasuredIn ws)
+  all_measured ws u (Ok m) (Ok a) h = measured_in ws u m a h
+  all_measured ws u (Err refusal) (Err other) h = tt
+  all_measured ws u (Ok m) (Err refusal) h = absurd h
+  all_measured ws u (Err refusal) (Ok a) h = absurd h
+
+  pub measured_lawful : (lookup : Lookup) (vars : List Var) (e : Expr) → AreThere lookup vars → IfOk (measured_of lookup vars e) (IsMeasuredIn (widths_of vars))
+  measured_lawful lookup vars e there =
+      all_measured (widths_of vars) [] (measured_of lookup vars e) (meaning_by lookup vars [] e) (stood law word sizes lookup vars there [] (no_words (widths_of vars)) e)
 
 assigned_nodes : (m : Measured) (target : Option ℕ) (unsigned : Bool) → nodes_of (assigned_term m target unsigned) ≤ 1 + weight_of m.pending
 assigned_nodes m target unsigned =

@@ -13,18 +13,18 @@ use Rattle.sv_ast.specs.declared.expression.Expr.TheOpen.{Expr-F, Sel-F}
 use Rattle.sv_ast.specs.declared.expression.Expr.TheViews.{roll-Expr, roll-Sel}
 use Rattle.sv_ast.specs.declared.expression.Expr.TheVariants.{outs-Number, outs-Fill}
 use Rattle.sv_ast.specs.declared.expression.Expr.TheFolds.{map-Expr, map-Sel, fold-roll-Expr, fold-roll-Sel, ind-Expr}
+use Rattle.net_ir.specs.declared.design.Var.{Var}
 use Rattle.net_ir.specs.declared.term.Term.{Const}
-use Rattle.net_ir.specs.Value.{widths_of}
+use Rattle.net_ir.specs.Value.{widths_of, AreWordsOf}
 use Rattle.const_eval.specs.declared.env.Const as constant
 use Rattle.const_eval.specs.declared.env.Bound.{Bound}
 use Rattle.const_eval.specs.declared.env.Bound.TheVariants.{Constant, Variable}
-use Rattle.const_eval.specs.Env.{bound_of}
 use Rattle.const_eval.specs.Meaning.{Meaning}
 use Rattle.const_eval.specs.Meaning as meaning
 use Rattle.const_eval.specs.Selects.{Named}
 use Rattle.const_eval.specs.WholeNumbers.{whole_number_of, count_of}
 use Rattle.const_eval.specs.Sized.{IsSized, AreSized}
-use Rattle.const_eval.specs.Constant.{named_of, names_of}
+use Rattle.const_eval.specs.Constant.{named_of}
 use Rattle.const_eval.specs.Expressions as expressions
 use Rattle.const_eval.specs.Expressions.{Names, Judged, Select, Positions, At, DownTo, UpFrom, DownFrom, expression_layer, select_layer, select_of, meaning_of, ◌>>=◌}
 use Rattle.const_eval.specs.Alike.{Alike}
@@ -32,14 +32,13 @@ use Rattle.const_eval.specs.code.Agreeing.{Agrees}
 use Rattle.const_eval.proofs.Judged.{alike_behind}
 use Rattle.const_eval.proofs.Means.{means}
 use Rattle.const_eval.proofs.Constants.{constants_alone_lem}
-use Rattle.width_rules.specs.declared.scope.Scope.{Scope}
 use Rattle.width_rules.specs.declared.measured.Measured.{Measured}
 use Rattle.width_rules.specs.declared.joined.Joined.{Joined}
 use Rattle.width_rules.specs.declared.joined.Joined.TheVariants.{Nothing}
 use Rattle.width_rules.specs.declared.pending.Pending as pending
 use Rattle.width_rules.specs.declared.taking.Taking.{Taking}
 use Rattle.width_rules.specs.declared.taking.Taking.TheVariants as taking
-use Rattle.width_rules.specs.Scope.{names_in, meaning_in, IsScope, AreWordsIn}
+use Rattle.width_rules.specs.Scope.{names_by, meaning_by, AreThere}
 use Rattle.width_rules.specs.Values.{constant_of}
 use Rattle.width_rules.specs.Operations as operations
 use Rattle.width_rules.specs.Joining as joining
@@ -93,18 +92,18 @@ more_alike R S (Err refusal) (Err other) g h k = h
 more_alike R S (Ok a) (Err refusal) g h k = absurd h
 more_alike R S (Err refusal) (Ok b) g h k = absurd h
 
-module _ (law : ValuesFit) (word : WordsOfSigned) (sizes : ExpressionsSized) (scope : Scope) (lawful : IsScope scope) (u : List ℕ) (words : AreWordsIn scope u) where
+module _ (law : ValuesFit) (word : WordsOfSigned) (sizes : ExpressionsSized) (lookup : Lookup) (vars : List Var) (lawful : AreThere lookup vars) (u : List ℕ) (words : AreWordsOf (widths_of vars) u) where
   abbrev ws : List ℕ
-  ws = widths_of scope.vars
+  ws = widths_of vars
 
   abbrev names : Names
-  names = names_in scope u
+  names = names_by lookup vars u
 
   abbrev built : Expr → Built
-  built = built_of (bound_of scope.names) scope.vars
+  built = built_of lookup vars
 
   abbrev built_select : Sel → BuiltSelect
-  built_select = built_select_of (bound_of scope.names) scope.vars
+  built_select = built_select_of lookup vars
 
   abbrev IsStood : Expr → Type 0
   IsStood e = Alike (Stands ws u) (built e).measured (means names e false)
@@ -121,30 +120,30 @@ module _ (law : ValuesFit) (word : WordsOfSigned) (sizes : ExpressionsSized) (sc
 
   found_in : (e : Expr) → Alike IsFound (constant_in (built e)) (means names e true)
   found_in e =
-      let here : (built e).meaning true ≡ means (names_of scope.names) e true = ap (λ (f : Bool → Judged). f true) (meant (bound_of scope.names) scope.vars e) in
-      let there : means names e true ≡ means (names_of scope.names) e true = constants_alone_lem names (names_of scope.names) (same_constants scope u) e in
+      let here : (built e).meaning true ≡ means (constants_of lookup) e true = ap (λ (f : Bool → Judged). f true) (meant lookup vars e) in
+      let there : means names e true ≡ means (constants_of lookup) e true = constants_alone_lem names (constants_of lookup) (same_constants lookup vars u) e in
       subst (λ j. Alike IsFound (constant_of j) (means names e true)) (sym here)
-      (subst (λ j. Alike IsFound (constant_of (means (names_of scope.names) e true)) j) (sym there)
-      (constant_found (means (names_of scope.names) e true) (sizes (names_of scope.names) (constants_sized (bound_of scope.names)) true e)))
+      (subst (λ j. Alike IsFound (constant_of (means (constants_of lookup) e true)) j) (sym there)
+      (constant_found (means (constants_of lookup) e true) (sizes (constants_of lookup) (constants_sized lookup) true e)))
 
   literal_alike : (text : Id) → Alike (Stands ws u) (spec.literal text) (expressions.literal text)
   literal_alike text =
       behind_constant (Stands ws u) (expressions.literal text) (λ c. operations.alone c.value.width c.signed (Const c.value))
-      (subst (λ j. IfOk j IsSized) (opened (names_of scope.names) true (Number text) _ (outs-Number text)) (sizes (names_of scope.names) (constants_sized (bound_of scope.names)) true (Number text)))
+      (subst (λ j. IfOk j IsSized) (opened (constants_of lookup) true (Number text) _ (outs-Number text)) (sizes (constants_of lookup) (constants_sized lookup) true (Number text)))
       (λ c found. literal_stands word ws u text c _ found (λ wide has. alone_stands law word ws u c.value.width (Const c.value) c.signed c.value.word words wide has))
 
   filled_alike : (text : Id) → Alike (Stands ws u) (spec.filled text) (expressions.filled text)
   filled_alike text =
       behind_constant (Stands ws u) (expressions.filled text) (λ c. record { size = 1; signed = false; pending = pending.Fill c.value })
-      (subst (λ j. IfOk j IsSized) (opened (names_of scope.names) true (Fill text) _ (outs-Fill text)) (sizes (names_of scope.names) (constants_sized (bound_of scope.names)) true (Fill text)))
+      (subst (λ j. IfOk j IsSized) (opened (constants_of lookup) true (Fill text) _ (outs-Fill text)) (sizes (constants_of lookup) (constants_sized lookup) true (Fill text)))
       (λ c found. filled_stands word ws u text c words found)
 
-  selected_alike : (held : List Kept) (name : Id) (bound : Bound) (named : Named) → picked.IsNamed law word scope lawful u words bound named →
-      Alike (Stands ws u) (spec.selected scope.vars name bound (map built_select (map (λ s. s.0) held))) (expressions.selected (map (select_of names) (map (λ s. s.0) held)) false named name)
-  selected_alike [] name bound named h = picked.whole_stands law word scope lawful u words name bound named h
+  selected_alike : (held : List Kept) (name : Id) (bound : Bound) (named : Named) → picked.IsNamed law word lookup vars lawful u words bound named →
+      Alike (Stands ws u) (spec.selected vars name bound (map built_select (map (λ s. s.0) held))) (expressions.selected (map (select_of names) (map (λ s. s.0) held)) false named name)
+  selected_alike [] name bound named h = picked.whole_stands law word lookup vars lawful u words name bound named h
   selected_alike (s ∷ []) name bound named h =
-      alike_behind (ArePositions ws u) (Stands ws u) (built_select s.0).taking ((select_of names s.0).positions false) (λ t. selecting.take scope.vars name bound t)
-      (λ p. expressions.take p named name) s.1.1 (λ t p k. picked.take_alike law word scope lawful u words name bound named t p h k)
+      alike_behind (ArePositions ws u) (Stands ws u) (built_select s.0).taking ((select_of names s.0).positions false) (λ t. selecting.take vars name bound t)
+      (λ p. expressions.take p named name) s.1.1 (λ t p k. picked.take_alike law word lookup vars lawful u words name bound named t p h k)
   selected_alike (s ∷ t ∷ more) name bound named h =
       alike_behind (ArePositions ws u) (Stands ws u) (built_select s.0).taking ((select_of names s.0).positions false)
       (λ _. (built_select t.0).taking >>= λ _. Err (expressions.second_select (built_select t.0).select.place))
@@ -169,15 +168,15 @@ module _ (law : ValuesFit) (word : WordsOfSigned) (sizes : ExpressionsSized) (sc
   abbrev here : Expr-F Held Kept → Expr-F Expr Sel
   here y = map-Expr Held Kept Expr Sel (λ e. e.0) (λ s. s.0) y
 
-  layer_alike : (y : Expr-F Held Kept) → Alike (Stands ws u) (measured_layer (bound_of scope.names) scope.vars (map-Expr Expr Sel Built BuiltSelect built built_select (here y)))
+  layer_alike : (y : Expr-F Held Kept) → Alike (Stands ws u) (measured_layer lookup vars (map-Expr Expr Sel Built BuiltSelect built built_select (here y)))
       (expression_layer names (map-Expr Expr Sel (Bool → Judged) Select (means names) (select_of names) (here y)) false)
   layer_alike (expr.Number text) = literal_alike text
   layer_alike (expr.Fill text) = filled_alike text
   layer_alike (expr.Read name selects) =
-      alike_behind (picked.IsNamed law word scope lawful u words) (Stands ws u) (bound_by (bound_of scope.names) name) (expressions.named_by names false name)
-      (λ bound. spec.selected scope.vars name bound (map built_select (map (λ s. s.0) selects)))
+      alike_behind (picked.IsNamed law word lookup vars lawful u words) (Stands ws u) (bound_by lookup name) (expressions.named_by names false name)
+      (λ bound. spec.selected vars name bound (map built_select (map (λ s. s.0) selects)))
       (λ named. expressions.selected (map (select_of names) (map (λ s. s.0) selects)) false named name)
-      (picked.named_alike law word scope lawful u words name) (λ bound named h. selected_alike selects name bound named h)
+      (picked.named_alike law word lookup vars lawful u words name) (λ bound named h. selected_alike selects name bound named h)
   layer_alike (expr.Unary sign a) =
       alike_behind (Stands ws u) (Stands ws u) (built a.0).measured (means names a.0 false) (operations.unary_on sign) (expressions.unary_on sign) a.1
       (λ k m h. operated.unary_on_stands law word ws u sign k m h)
@@ -255,19 +254,19 @@ module _ (law : ValuesFit) (word : WordsOfSigned) (sizes : ExpressionsSized) (sc
   rolled_stood : (y : Expr-F Held Kept) → IsStood (roll-Expr (here y))
   rolled_stood y =
       subst (λ (b : Built). Alike (Stands ws u) b.measured (means names (roll-Expr (here y)) false))
-      (sym (fold-roll-Expr Built BuiltSelect (built_layer (bound_of scope.names) scope.vars) built_select_layer (here y)))
-      (subst (λ (part : Bool → Judged). Alike (Stands ws u) (measured_layer (bound_of scope.names) scope.vars (map-Expr Expr Sel Built BuiltSelect built built_select (here y))) (part false))
+      (sym (fold-roll-Expr Built BuiltSelect (built_layer lookup vars) built_select_layer (here y)))
+      (subst (λ (part : Bool → Judged). Alike (Stands ws u) (measured_layer lookup vars (map-Expr Expr Sel Built BuiltSelect built built_select (here y))) (part false))
       (sym (fold-roll-Expr (Bool → Judged) Select (expression_layer names) select_layer (here y))) (layer_alike y))
 
   rolled_placed : (y : Sel-F Held Kept) → IsPlaced (roll-Sel (select_here y))
   rolled_placed y =
       subst (λ (b : BuiltSelect). (b.select.place ≡ (select_of names (roll-Sel (select_here y))).place) × Alike (ArePositions ws u) b.taking ((select_of names (roll-Sel (select_here y))).positions false))
-      (sym (fold-roll-Sel Built BuiltSelect (built_layer (bound_of scope.names) scope.vars) built_select_layer (select_here y)))
+      (sym (fold-roll-Sel Built BuiltSelect (built_layer lookup vars) built_select_layer (select_here y)))
       (subst (λ (s : Select). ((built_of_layer y).select.place ≡ s.place) × Alike (ArePositions ws u) (built_of_layer y).taking (s.positions false))
       (sym (fold-roll-Sel (Bool → Judged) Select (expression_layer names) select_layer (select_here y))) (same_place y, positions_alike y))
 
   -- what is measured of an expression stands for what it means
-  pub stood : (e : Expr) → Alike (Stands ws u) (measured_of (bound_of scope.names) scope.vars e) (meaning_in scope u e)
+  pub stood : (e : Expr) → Alike (Stands ws u) (measured_of lookup vars e) (meaning_by lookup vars u e)
   stood =
       ind-Expr IsStood IsPlaced
       (λ x y is. subst (λ z. IsStood (roll-Expr z)) is (rolled_stood y))

@@ -1,9 +1,9 @@
 pub mod Scope
-pub mod Sized
 pub mod Nodes
 pub mod Building
 pub mod Waiting
 pub mod Assigning
+pub mod Sized
 pub mod Values
 pub mod Operations
 pub mod Joining

@@ -27,24 +27,40 @@ abbrev pub named_where : List Var → List ℕ → Option Bound → Option Named
 named_where vars u None = None
 named_where vars u (Some bound) = Some (named_in vars u bound)
 
--- what each visible name means in a scope, where its nets and variables have the words u
-abbrev pub names_in : Scope → List ℕ → List ℕ → Option Named
-names_in scope u name = named_where scope.vars u (bound_of scope.names name)
+-- what each visible name means, where names stand for these constants, nets and variables, which have the words u
+abbrev pub names_by : (List ℕ → Option Bound) → List Var → List ℕ → List ℕ → Option Named
+names_by lookup vars u name = named_where vars u (lookup name)
 
--- what an expression means in a scope, or its first refusal, where nets and variables have the words u
+-- so in a scope
+abbrev pub names_in : Scope → List ℕ → List ℕ → Option Named
+names_in scope u name = names_by (bound_of scope.names) scope.vars u name
+
+-- what an expression means, or its first refusal, where names stand for these constants, nets and variables
+abbrev pub meaning_by : (List ℕ → Option Bound) → List Var → List ℕ → Expr → Judged
+meaning_by lookup vars u e = meaning_of (names_by lookup vars u) false e
+
+-- so in a scope
 abbrev pub meaning_in : Scope → List ℕ → Expr → Judged
-meaning_in scope u e = meaning_of (names_in scope u) false e
+meaning_in scope u e = meaning_by (bound_of scope.names) scope.vars u e
 
 -- each name of a net or variable stands for one that is there, and each of these has a width that a value may have
-pub record IsScope (scope : Scope) : Type 0 where
-  pub there : (name : List ℕ) (x : ℕ) → bound_of scope.names name ≡ Some (Variable x) → x < length scope.vars
-  pub widths : AllByRecursion (λ (v : Var). IsWidth v.width) scope.vars
+pub record AreThere (lookup : List ℕ → Option Bound) (vars : List Var) : Type 0 where
+  pub there : (name : List ℕ) (x : ℕ) → lookup name ≡ Some (Variable x) → x < length vars
+  pub widths : AllByRecursion (λ (v : Var). IsWidth v.width) vars
+
+-- so in a scope
+abbrev pub IsScope : Scope → Type 0
+IsScope scope = AreThere (bound_of scope.names) scope.vars
 
 -- the words of a scope's nets and variables, each one of its width
 abbrev pub AreWordsIn : Scope → List ℕ → Type 0
 AreWordsIn scope u = AreWordsOf (widths_of scope.vars) u
 
 -- what a bound name stands for is there
+abbrev pub IsAmong : List Var → Bound → Type 0
+IsAmong vars (Constant value low) = ⊤
+IsAmong vars (Variable x) = x < length vars
+
+-- so in a scope
 abbrev pub IsBoundIn : Scope → Bound → Type 0
-IsBoundIn scope (Constant value low) = ⊤
-IsBoundIn scope (Variable x) = x < length scope.vars
+IsBoundIn scope bound = IsAmong scope.vars bound
