@@ -44,7 +44,7 @@ in_all : (k w : ℕ) → in_run (record { low = 0; end = w }) k ≡ (nat_lt k w 
 in_all k w = grind (arith, nat_tests)
 
 -- of a word of w bits, those from one place on, below another
-abbrev between : ℤ → ℤ → ℕ → Run
+abbrev pub between : ℤ → ℤ → ℕ → Run
 between z y w =
     if int_le y (pos 0) || int_le (pos w) z
     then record { low = 0; end = 0 }
@@ -67,7 +67,7 @@ in_place ws v p k = by_test (is_fixed p) where
   by_test true = in_covered (position_of ws [] p -ℤ pos v.low) p.width v.width k
   by_test false = in_all k v.width
 
-in_taken : (ws : List ℕ) (v : Var) (p : Option Pos) (k : ℕ) → in_run (run_of ws v p) k ≡ (nat_lt k v.width && takes_bit ws v p k)
+pub in_taken : (ws : List ℕ) (v : Var) (p : Option Pos) (k : ℕ) → in_run (run_of ws v p) k ≡ (nat_lt k v.width && takes_bit ws v p k)
 in_taken ws v None k = in_all k v.width
 in_taken ws v (Some p) k = in_place ws v p k
 

@@ -7,3 +7,7 @@ pub mod LawfulParts
 pub mod Takings
 pub mod PortOrder
 pub mod Bits
+pub mod Marking
+pub mod Rows
+pub mod Driving
+pub mod Turns

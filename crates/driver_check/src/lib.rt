@@ -2,11 +2,13 @@
 #![tactic(auto)]
 
 mod constant;
+mod driven;
 pub mod law;
 mod runs;
 mod sources;
 mod written;
 
+pub use driven::{DriverMap, driven_once};
 pub use runs::{Run, Taken};
 pub use sources::{Source, written_bits};
 pub use written::written_rightly;
