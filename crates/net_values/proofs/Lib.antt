@@ -1,0 +1,13 @@
+pub mod Terms
+pub mod Layers
+pub mod Numbers
+pub mod Elements
+pub mod TermReads
+pub mod Overlays
+pub mod Variables
+pub mod BitWrites
+pub mod Targets
+pub mod Statements
+pub mod Stores
+pub mod LawfulParts
+pub mod Executions
