@@ -3,6 +3,8 @@
 
 mod command;
 mod compile;
+#[cfg(test)]
+mod language_rows;
 mod law;
 mod load;
 #[cfg(test)]

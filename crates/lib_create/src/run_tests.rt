@@ -3,6 +3,7 @@
 ghost use Rattle.std.specs.Prelude.{◌≡◌, ◌<◌};
 ghost use Rattle.model_stage.specs.Order.{Picks};
 
+use crate::language_rows::ROWS;
 use crate::run::run_words;
 use io_edge::{MemFolder, MemSink};
 use model_stage::Order;
@@ -290,6 +291,45 @@ fn designs_give_their_traces(rt: HostRuntime) -> Result<(), Fail> {
     Ok(())
 }
 
+#[test]
+fn the_wider_language_gives_its_traces(rt: HostRuntime) -> Result<(), Fail> {
+    for (source, stimulus, trace) in ROWS {
+        let files = [("t.sv", source), ("s.txt", stimulus)];
+        always_gives(&rt, &SIM, &files, (0, trace, ""))?;
+    }
+    Ok(())
+}
+
+const COUNTER: &str = "module t(input logic clk, rst, output logic [3:0] q); \
+always_ff @(posedge clk) if (rst) q <= 0; else q <= q + 1; endmodule";
+
+// The counter of 4 bits is at 0 again after 16 rising edges.
+#[test]
+fn a_counter_comes_round(rt: HostRuntime) -> Result<(), Fail> {
+    let mut stimulus = String::new(rt.alloc());
+    for _ in 0..17u32 {
+        stimulus.push_str("c clk=1\nc clk=0\n")?;
+    }
+    let files = [("t.sv", COUNTER), ("s.txt", stimulus.as_str())];
+    let order = Order::new(|_, _| 0);
+    let got = run(&rt, &SIM, &files, no_fault(100), &order)?;
+    assert_eq!(rt; got.status, 0);
+    assert!(rt; got.out.starts_with(b"step clk:1 rst:1 q:4\n0 0 0 0\n1 1 0 1\n2 0 0 1\n3 1 0 2\n"));
+    assert!(rt;
+        got.out
+            .ends_with(b"\n30 0 0 f\n31 1 0 0\n32 0 0 0\n33 1 0 1\n34 0 0 1\n")
+    );
+    assert!(rt; got.err.is_empty());
+    let begun = "step clk:1 rst:1 q:4\n0 0 0 0\n1 1 0 1\n2 0 0 1\n";
+    let files = [("t.sv", COUNTER), ("s.txt", "c clk=1\nc clk=0\nd clk=1\n")];
+    always_gives(
+        &rt,
+        &SIM,
+        &files,
+        (5, begun, "stimulus 3: clk is a clock\n"),
+    )
+}
+
 // Words that are refused, and the message.
 const MISUSES: [(&[&str], &str); 10] = [
     (&[], "usage: too few words\n"),
@@ -458,56 +498,61 @@ const REFUSED: [(&str, &str); 49] = [
         UNSUPPORTED,
     ),
     (
-        "module t(input logic [1:0] a, output logic y); assign y = ~a; endmodule",
-        UNSUPPORTED,
-    ),
-    (
         "module t #(parameter N = 1)(input logic a, output logic y); assign y = ~a; endmodule",
         UNSUPPORTED,
     ),
     (
-        "module t(input wire a, output logic y); assign y = ~a; endmodule",
-        UNSUPPORTED,
-    ),
-    ("module t; endmodule", UNSUPPORTED),
-    (
-        "module t(input logic a, output logic y); reg r; assign y = ~a; endmodule",
-        UNSUPPORTED,
-    ),
-    (
-        "module t(input logic a, output logic y); logic r, s; assign y = ~a; endmodule",
-        UNSUPPORTED,
-    ),
-    (
-        "module t(input logic a, output logic y); ; assign y = ~a; endmodule",
-        UNSUPPORTED,
-    ),
-    (
         "module t(input logic a, output logic y); assign y[0] = a; endmodule",
-        UNSUPPORTED,
+        "t.sv:1: BadRange y\n",
     ),
     (
         "module t(input logic a, output logic y); assign y = a[0]; endmodule",
-        UNSUPPORTED,
-    ),
-    (
-        "module t(input logic a, output logic y); assign y = 1'b0; endmodule",
-        UNSUPPORTED,
-    ),
-    (
-        "module t(input logic a, output logic y); assign y = a && a; endmodule",
-        UNSUPPORTED,
-    ),
-    (
-        "module t(input logic k, input logic a, output logic y); always_ff @(posedge k) if (a) y <= a; endmodule",
-        UNSUPPORTED,
+        "t.sv:1: BadRange a\n",
     ),
     (
         "module t(input logic k, input logic a, output logic y); always_ff @(posedge k) y = a; endmodule",
         UNSUPPORTED,
     ),
     (
-        "module t(input logic k, input logic a, output logic y); always_ff @(posedge k) begin : b y <= a; end endmodule",
+        "module t(input logic [63:0] a, output logic [63:0] y);\nlogic [64:0] w;\nendmodule",
+        "t.sv:2: TooWide w\n",
+    ),
+    (
+        "module t(input logic [7:0] a, input logic [2:0] p, output logic [3:0] y); assign y[p] = 1'b1; endmodule",
+        "t.sv:1: NotConstant p\n",
+    ),
+    // What is read and not run yet: parameters, what is generated, instances, combinational processes and loops.
+    (
+        "module t(input logic a, output logic y); localparam N = 1; assign y = a; endmodule",
+        UNSUPPORTED,
+    ),
+    (
+        "module t(input logic a, output logic y); genvar i; assign y = a; endmodule",
+        UNSUPPORTED,
+    ),
+    (
+        "module t(input logic a, output logic y); always_comb y = a; endmodule",
+        UNSUPPORTED,
+    ),
+    (
+        "module t(input logic a, output logic y); u v(a, y); endmodule",
+        UNSUPPORTED,
+    ),
+    (
+        "module t(input logic a, output logic y); if (1) assign y = a; endmodule",
+        UNSUPPORTED,
+    ),
+    (
+        "module t(input logic k, input logic a, output logic y); always_ff @(posedge k) if (a) for (int i = 0; i < 2; i++) y <= a; endmodule",
+        UNSUPPORTED,
+    ),
+    // A process that writes a net, and two assignments to different bits of one variable.
+    (
+        "module t(input logic k, input logic a, output y); always_ff @(posedge k) y <= a; endmodule",
+        UNSUPPORTED,
+    ),
+    (
+        "module t(input logic a, output logic [1:0] y); assign y[0] = a; assign y[1] = a; endmodule",
         UNSUPPORTED,
     ),
 ];

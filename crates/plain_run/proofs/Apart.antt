@@ -11,8 +11,8 @@ use Rattle.net_ir.specs.declared.design.Driver.{Driver}
 use Rattle.net_ir.specs.declared.design.Spec.{Spec}
 use Rattle.net_ir.specs.Drive.{NoneHolds}
 use Rattle.net_ir.specs.Register.{Register, holder_from, onto_run, with_bit, runs_from, registers_from, registers_of}
-use Rattle.plain_run.proofs.Elements.{all_from, all_join, all_get}
-use Rattle.plain_run.proofs.Numbers.{and_of_true, front_of_and, back_of_and, test_eq, eq_test, test_lt, lt_test}
+use Rattle.net_values.proofs.Elements.{all_from, all_join, all_get}
+use Rattle.net_values.proofs.Numbers.{and_of_true, front_of_and, back_of_and, test_eq, eq_test, test_lt, lt_test}
 use Rattle.plain_run.proofs.Registers.{IsRun, IsRegister, runs_sound, registers_sound, holder_of}
 
 -- a register has bit k of variable x

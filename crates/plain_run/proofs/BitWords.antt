@@ -4,7 +4,7 @@ use Rattle.std.specs.Prelude.{◌⊎◌}
 use Rattle.std.specs.Int.{bit_at}
 use Rattle.std.proofs.Math.Nat.{mod-eq_of_lt, mul-le-mul_left, pow-suc}
 use Rattle.std.proofs.lemmas.Nat.Bits.{bit_at_lowest, bit_at_cat_low, bit_at_cat_high}
-use Rattle.plain_run.proofs.Numbers.{same_or_not}
+use Rattle.net_values.proofs.Numbers.{same_or_not}
 
 -- the word of the lowest n of some bits
 abbrev pub word_of : (ℕ → ℕ) → ℕ → ℕ

@@ -1,6 +1,6 @@
 -- Idle inputs are idle: nothing depends on their levels.
 use Rattle.std.proofs.Common.{◌≡◌, ℕ, ◌<◌, ◌≤◌, ◌^◌, ◌+◌, List, length, get_or, Bool, true, false, refl, sym, ◌∙◌, ap, subst, Option, None, Some, inl, inr}
-use Rattle.std.specs.Prelude.{slice_index, slice_get, ◌==◌, ◌&&◌, nat_lt, ◌⊎◌, if◌then◌else◌}
+use Rattle.std.specs.Prelude.{slice_index, slice_get, ◌⊎◌}
 use Rattle.std.specs.List.{AllByRecursion}
 use Rattle.std.specs.Int.{bit_at}
 use Rattle.std.proofs.lemmas.List.{get_or_past}
@@ -19,26 +19,22 @@ use Rattle.net_ir.specs.declared.design.Driver.{Driver}
 use Rattle.net_ir.specs.declared.design.Driver.TheVariants as driver
 use Rattle.net_ir.specs.declared.design.Driver.TheVariants.{Assign, Comb, Clocked}
 use Rattle.net_ir.specs.declared.design.Spec.{Spec}
-use Rattle.net_ir.specs.Value.{widths_of, val, reads_of}
-use Rattle.net_ir.specs.Target.{var_list, target_reads}
-use Rattle.net_ir.specs.Drive.{gives, driver_reads, driver_clocks, holds}
+use Rattle.net_ir.specs.Target.{var_list}
+use Rattle.net_ir.specs.Drive.{depends_on, driver_reads, driver_clocks, holds}
 use Rattle.net_ir.specs.Face.{stands_in, clocks_of, all_reads, input_class, class_of, port_of, ports_of}
 use Rattle.net_ir.specs.Solution.{Solves, IsDriven, IsHeld}
 use Rattle.net_ir.specs.Stepping.{Samples}
-use Rattle.plain_run.specs.Plain.{IsPlain, IsWhole, IsInput, SparesInputs, IsPlainClock, IsPlainTrigger, HasPlainClocks, written_by}
+use Rattle.plain_run.specs.Plain.{IsPlain, IsTimely, IsInput, SparesInputs, IsPlainClock, IsPlainTrigger, HasPlainClocks, written_by}
 use Rattle.net_ir.specs.Register.{Register, registers_of}
 use Rattle.net_ir.specs.Facts.{HasPortsFirst}
 use Rattle.net_ir.specs.Idle.{DifferInIdle, IgnoresIdle}
-use Rattle.plain_run.proofs.Terms.{AgreeAt, operand_is_local, all_back}
-use Rattle.plain_run.proofs.Elements.{all_from, all_both, all_flat, each_flat}
+use Rattle.net_values.specs.Writes.{AgreeOn}
+use Rattle.net_values.proofs.Elements.{all_from, all_both, all_flat, each_flat}
 use Rattle.plain_run.proofs.WordsBy.{words_by, length-words_by, word_at}
 use Rattle.plain_run.proofs.Sampled.{ReadsAgree, all_stand, samples_same}
-use Rattle.plain_run.proofs.Numbers.{front_of_and, test_eq}
-use Rattle.plain_run.proofs.Wholes.{all_standing}
-use Rattle.plain_run.proofs.Order.{has_whole, gives_whole, held_named}
+use Rattle.plain_run.proofs.Named.{all_standing}
+use Rattle.plain_run.proofs.Order.{given_is_driven, gives_alike, driven_is_named, held_named}
 use Rattle.plain_run.proofs.Registers.{holder_holds, register_bit}
-use Rattle.plain_run.proofs.Unique.{length-widths, element_at}
-use Rattle.plain_run.proofs.LawfulReads.{driver_there}
 use Rattle.plain_run.proofs.Ports.{LevelsAgree, port_is, ports_among, idle_role, output_not_idle, input_port, same_at, same_words, levels_agree}
 
 -- ---- classes
@@ -72,20 +68,23 @@ inner_class spec x Inner inner idle = let clash : class.Output ≡ Idle = idle i
 abbrev AgreeButIdle : Spec → List ℕ → List ℕ → Type 0
 AgreeButIdle spec u v = (x : ℕ) (w : Var) → slice_get spec.vars x ≡ Some w → (class_of spec x w.role ≡ Idle → ⊥) → slice_index u x ≡ slice_index v x
 
--- they agree at what is read
-agree_read : (spec : Spec) (u v : List ℕ) (x : ℕ) → AgreeButIdle spec u v → x < length (widths_of spec.vars) → stands_in x (all_reads spec) ≡ true → slice_index u x ≡ slice_index v x
-agree_read spec u v x but there here =
-    let found = element_at spec.vars x (subst (λ n. x < n) (length-widths spec.vars) there) in
-    but x found.0 found.1 (read_class spec x found.0.role here)
+-- where their lists are of one length they agree at a number that means no idle input, also where no variable stands
+agree_at : (spec : Spec) (u v : List ℕ) (x : ℕ) → length u ≡ length spec.vars → length v ≡ length spec.vars → AgreeButIdle spec u v →
+    ((w : Var) → slice_get spec.vars x ≡ Some w → class_of spec x w.role ≡ Idle → ⊥) → slice_index u x ≡ slice_index v x
+agree_at spec u v x long_u long_v but none = by_case (slice_get_cases spec.vars x).1 where
+  by_case : ((w : Var) × (x < length spec.vars) × (slice_get spec.vars x ≡ Some w) × (get_or spec.vars x w ≡ w)) ⊎ ((length spec.vars ≤ x) × (slice_get spec.vars x ≡ None)) →
+      slice_index u x ≡ slice_index v x
+  by_case (inl found) = but x found.0 found.2 (none found.0 found.2)
+  by_case (inr past) =
+      get_or_past u x 0 (subst (λ n. n ≤ x) (sym long_u) past.0) ∙ sym (get_or_past v x 0 (subst (λ n. n ≤ x) (sym long_v) past.0))
 
 -- so at what each driver reads
-agree_reads : (spec : Spec) (u v : List ℕ) → AllByRecursion (IsWhole spec.vars) spec.drivers → AgreeButIdle spec u v → AllByRecursion (ReadsAgree u v) spec.drivers
-agree_reads spec u v whole but =
-    let ws = widths_of spec.vars in
-    let Stands : ℕ → Type 0 = λ x. stands_in x (all_reads spec) ≡ true in
-    all_both (IsWhole spec.vars) (λ d. AllByRecursion Stands (driver_reads d)) (ReadsAgree u v)
-    (λ d whole stand. all_both (λ x. x < length ws) Stands (λ x. slice_index u x ≡ slice_index v x) (λ x there here. agree_read spec u v x but there here) (driver_reads d) (driver_there spec.vars d whole) stand)
-    spec.drivers whole (each_flat Stands driver_reads spec.drivers (all_stand (all_reads spec)))
+agree_reads : (spec : Spec) (u v : List ℕ) → length u ≡ length spec.vars → length v ≡ length spec.vars → AgreeButIdle spec u v →
+    AllByRecursion (ReadsAgree u v) spec.drivers
+agree_reads spec u v long_u long_v but =
+    each_flat (λ x. slice_index u x ≡ slice_index v x) driver_reads spec.drivers
+    (all_from (λ x. stands_in x (all_reads spec) ≡ true) (λ x. slice_index u x ≡ slice_index v x)
+    (λ x here. agree_at spec u v x long_u long_v but (λ w at. read_class spec x w.role here)) (all_reads spec) (all_stand (all_reads spec)))
 
 -- and the words of outputs are the same
 outputs_same : (spec : Spec) (u v : List ℕ) → length u ≡ length spec.vars → length v ≡ length spec.vars → AgreeButIdle spec u v →
@@ -116,7 +115,7 @@ plain_clocks spec (Clocked triggers body at) plain =
 
 -- levels that are the same at clocks agree at what event controls name
 agree_clocks : (spec : Spec) (levels others : List ℕ) → IsPlain spec → length (ports_of spec) ≤ length levels → length (ports_of spec) ≤ length others →
-    words_of_class is_clock (ports_of spec) levels ≡ words_of_class is_clock (ports_of spec) others → AgreeAt levels others (clocks_of spec)
+    words_of_class is_clock (ports_of spec) levels ≡ words_of_class is_clock (ports_of spec) others → AgreeOn (clocks_of spec) levels others
 agree_clocks spec levels others plain long_levels long_others same =
     all_both (IsPlainClock spec) (λ x. stands_in x (clocks_of spec) ≡ true) (λ x. slice_index levels x ≡ slice_index others x)
     (λ x clock here. at_clock x clock.input here) (clocks_of spec)
@@ -126,7 +125,7 @@ agree_clocks spec levels others plain long_levels long_others same =
       at_clock : (x : ℕ) → IsInput spec.vars x → stands_in x (clocks_of spec) ≡ true → slice_index levels x ≡ slice_index others x
       at_clock x input here =
           same_at is_clock (ports_of spec) levels others x (port_of spec x input.0) long_levels long_others same
-          (input_port spec x input.0 plain.ports input.1 input.2) (clock_class spec x input.0.role input.2 here)
+          (input_port spec x input.0 plain.lawful.ports input.1 input.2) (clock_class spec x input.0.role input.2 here)
 
 -- ---- the solution with other levels of idle inputs
 
@@ -169,38 +168,25 @@ agree_but spec levels u x w at not_idle = same_word spec levels u x w at not_idl
 
 -- two lists that agree but in idle inputs agree at what is no input
 agree_inner : (spec : Spec) (u v : List ℕ) (x : ℕ) → length u ≡ length spec.vars → length v ≡ length spec.vars → AgreeButIdle spec u v → (IsInput spec.vars x → ⊥) → slice_index u x ≡ slice_index v x
-agree_inner spec u v x long long_v but inner = by_case (slice_get_cases spec.vars x).1 where
-  by_case : ((w : Var) × (x < length spec.vars) × (slice_get spec.vars x ≡ Some w) × (get_or spec.vars x w ≡ w)) ⊎ ((length spec.vars ≤ x) × (slice_get spec.vars x ≡ None)) → slice_index u x ≡ slice_index v x
-  by_case (inl found) = but x found.0 found.2 (inner_class spec x found.0.role (λ input. inner (found.0, found.2, input)))
-  by_case (inr past) =
-      get_or_past u x 0 (subst (λ n. n ≤ x) (sym long) past.0) ∙ sym (get_or_past v x 0 (subst (λ n. n ≤ x) (sym long_v) past.0))
+agree_inner spec u v x long_u long_v but inner =
+    agree_at spec u v x long_u long_v but (λ w at. inner_class spec x w.role (λ input. inner (w, at, input)))
 
--- a bit that the assignment of a word to the whole of a variable gives is of that variable
-given_var : (var x k width word bit : ℕ) → (if (var == x) && nat_lt k width then Some (bit_at word k) else None) ≡ Some bit → var ≡ x
-given_var var x k width word bit given = by_test ((var == x) && nat_lt k width) refl where
-  by_test : (b : Bool) → ((var == x) && nat_lt k width) ≡ b → var ≡ x
-  by_test true is = test_eq var x (front_of_and (var == x) (nat_lt k width) is)
-  by_test false is = absurd (let clash : None ≡ Some bit = subst (λ (b : Bool). (if b then Some (bit_at word k) else None) ≡ Some bit) is given in cc)
+-- what a driver depends on it reads
+depends_read : (P : ℕ → Type 0) (d : Driver) → AllByRecursion P (driver_reads d) → AllByRecursion P (depends_on d)
+depends_read P (Assign target value at) all = all
+depends_read P (Comb body at) all = all
+depends_read P (Clocked triggers body at) all = tt
+depends_read P (driver.Instance made) all = all
 
 -- a driver that is met in the one is met in the other
 driven_too : (spec : Spec) (u v : List ℕ) (d : Driver) → length u ≡ length spec.vars → length v ≡ length spec.vars → AgreeButIdle spec u v →
-    IsWhole spec.vars d → SparesInputs spec.vars d → ReadsAgree u v d → IsDriven spec.vars u d → IsDriven spec.vars v d
-driven_too spec u v (Clocked triggers body at) long long_v but whole spares agree driven x k bit given = absurd (let clash : None ≡ Some bit = given in cc)
-driven_too spec u v (Comb body at) long long_v but whole spares agree driven x k bit given = absurd whole
-driven_too spec u v (driver.Instance made) long long_v but whole spares agree driven x k bit given = absurd whole
-driven_too spec u v (Assign target value at) long long_v but whole spares agree driven x k bit given =
-    let ws = widths_of spec.vars in
-    let has = has_whole spec.vars target value whole in
-    let same : val ws u value ≡ val ws v value =
-    ap (λ p. p.1) (operand_is_local ws value u v (all_back (λ y. slice_index u y ≡ slice_index v y) (target_reads target) (reads_of value) agree)) in
-    let on_v = gives_whole spec.vars target value at v x k has in
-    let on_u = gives_whole spec.vars target value at u x k has in
-    let alike : gives spec.vars (Assign target value at) u x k ≡ Some bit =
-    on_u ∙ ap (λ word. if (has.var == x) && nat_lt k has.variable.width then Some (bit_at word k) else None) same ∙ sym on_v ∙ given in
-    let here : has.var ≡ x = given_var has.var x k has.variable.width (val ws v value) bit (sym on_v ∙ given) in
-    let inner : IsInput spec.vars has.var → ⊥ = (subst (AllByRecursion (λ y. IsInput spec.vars y → ⊥)) has.names spares).0 in
-    ap (λ n. bit_at n k) (sym (agree_inner spec u v x long long_v but (subst (λ y. IsInput spec.vars y → ⊥) here inner)))
-    ∙ driven x k bit alike
+    IsTimely d → SparesInputs spec.vars d → ReadsAgree u v d → IsDriven spec.vars u d → IsDriven spec.vars v d
+driven_too spec u v d long_u long_v but timely spares agree driven x k bit given =
+    let reads : AgreeOn (depends_on d) u v = depends_read (λ y. slice_index u y ≡ slice_index v y) d agree in
+    let named = driven_is_named spec.vars d x k (given_is_driven spec.vars d v x k bit timely given) in
+    let inner : IsInput spec.vars x → ⊥ = all_standing (λ y. IsInput spec.vars y → ⊥) (written_by d) x spares named in
+    ap (λ n. bit_at n k) (sym (agree_inner spec u v x long_u long_v but inner))
+    ∙ driven x k bit (gives_alike spec.vars d u v x k timely reads ∙ given)
 
 -- the variable of a register is no input
 register_inner : (spec : Spec) (i : ℕ) (r : Register) (k : ℕ) → IsPlain spec → slice_get (registers_of spec) i ≡ Some r → k < r.width →
@@ -239,7 +225,7 @@ idle_solves spec s t u plain agree solves =
     let long = solves.valuation.each in
     let long_v : length v ≡ length spec.vars = length-words_by (idle_word spec t.inputs u) 0 spec.vars in
     let but : AgreeButIdle spec u v = agree_but spec t.inputs u in
-    let Meets : Driver → Type 0 = λ d. IsWhole spec.vars d × (SparesInputs spec.vars d × ReadsAgree u v d) in record {
+    let Meets : Driver → Type 0 = λ d. IsTimely d × (SparesInputs spec.vars d × ReadsAgree u v d) in record {
       valuation = record {
         each = long_v;
         fits = λ x w at. fits x w at (idle_or_not (class_of spec x w.role));
@@ -248,9 +234,9 @@ idle_solves spec s t u plain agree solves =
       registered = λ i r at. held_too spec s.registers t.registers u v i r plain long long_v but agree.registers at (solves.registered i r at);
       driven = all_both (IsDriven spec.vars u) Meets (IsDriven spec.vars v)
           (λ d driven both. driven_too spec u v d long long_v but both.0 both.1.0 both.1.1 driven) spec.drivers solves.driven
-          (all_both (IsWhole spec.vars) (λ d. SparesInputs spec.vars d × ReadsAgree u v d) Meets (λ d p q. (p, q)) spec.drivers plain.whole
+          (all_both IsTimely (λ d. SparesInputs spec.vars d × ReadsAgree u v d) Meets (λ d p q. (p, q)) spec.drivers plain.timely
           (all_both (SparesInputs spec.vars) (ReadsAgree u v) (λ d. SparesInputs spec.vars d × ReadsAgree u v d) (λ d p q. (p, q))
-          spec.drivers plain.inner (agree_reads spec u v plain.whole but)));
+          spec.drivers plain.inner (agree_reads spec u v long long_v but)));
       undriven = λ x k w at inner within none.
           ap (λ n. bit_at n k) (sym (but x w at (inner_class spec x w.role inner))) ∙ solves.undriven x k w at inner within none;
     } where
@@ -266,13 +252,14 @@ pub plain_idle : (spec : Spec) → IsPlain spec → IgnoresIdle spec
 plain_idle spec plain s t u differ solves =
     let v = with_idle spec t.inputs u in
     let but : AgreeButIdle spec u v = agree_but spec t.inputs u in
-    let agree : StatesAgree spec s t = states_agree spec s t plain.ports differ in record {
+    let agree : StatesAgree spec s t = states_agree spec s t plain.lawful.ports differ in record {
       solution = v;
       solves = idle_solves spec s t u plain agree solves;
       outputs = outputs_same spec u v solves.valuation.each (length-words_by (idle_word spec t.inputs u) 0 spec.vars) but;
       samples = λ after others next long_after long_others same samples.
           subst (λ kept. Samples spec v t.inputs others kept next) (sym agree.registers)
-          (samples_same spec u v s.inputs t.inputs after others s.registers next plain.whole
+          (samples_same spec u v s.inputs t.inputs after others s.registers next
           (agree_clocks spec s.inputs t.inputs plain differ.long differ.also_long (ap (λ (h : Held). h.levels) differ.same))
-          (agree_clocks spec after others plain long_after long_others same) (agree_reads spec u v plain.whole but) samples);
+          (agree_clocks spec after others plain long_after long_others same)
+          (agree_reads spec u v solves.valuation.each (length-words_by (idle_word spec t.inputs u) 0 spec.vars) but) samples);
     }

@@ -1,5 +1,5 @@
 -- Names of targets and marks of variables, and the loops that set and read them.
-use Rattle.std.proofs.Common.{◌≡◌, ℕ, zero, suc, ◌<◌, ◌≤◌, ◌+◌, List, [], ◌∷◌, ◌++◌, length, drop, get_or, Bool, true, false, refl, sym, ◌∙◌, ap, subst, arith, add-one, drop-cons, inl, inr}
+use Rattle.std.proofs.Common.{◌≡◌, ℕ, zero, suc, ◌<◌, ◌≤◌, ◌+◌, List, [], ◌∷◌, ◌++◌, length, drop, get_or, Bool, true, false, refl, sym, ◌∙◌, ap, subst, arith, add-one, drop-cons, None, Some, inl, inr}
 use Rattle.std.specs.Prelude.{◌&&◌, ◌||◌, ◌==◌, slice_index_or, slice_set, replicate, ◌⊎◌}
 use Rattle.std.specs.List.{flat_map, list_all}
 use Rattle.std.proofs.lemmas.Bool.Decides.{nat_tests}
@@ -17,12 +17,12 @@ use Rattle.net_ir.specs.declared.statement.Target.TheVariants.{outs-List}
 use Rattle.net_ir.specs.declared.statement.Target.TheViews.{out-Target}
 use Rattle.net_ir.specs.declared.statement.Target.TheFolds.{map-Target, fold_out-Target}
 use Rattle.net_ir.specs.declared.statement.Arm.{Arm}
-use Rattle.net_ir.specs.declared.statement.Stmt.{Stmt, Block, Case, Assign}
+use Rattle.net_ir.specs.declared.statement.Stmt.{Stmt, Block, If, Case, Assign}
 use Rattle.net_ir.specs.declared.statement.Stmt.TheOpen as statement
 use Rattle.net_ir.specs.declared.statement.Stmt.TheOpen.{Stmt-F}
-use Rattle.net_ir.specs.declared.statement.Stmt.TheVariants.{outs-Block, outs-Case, outs-Assign}
+use Rattle.net_ir.specs.declared.statement.Stmt.TheVariants.{outs-Block, outs-If, outs-Case, outs-Assign}
 use Rattle.net_ir.specs.declared.statement.Stmt.TheViews.{out-Stmt}
-use Rattle.net_ir.specs.declared.statement.Stmt.TheFolds.{map-Stmt, fold_out-Stmt}
+use Rattle.net_ir.specs.declared.statement.Stmt.TheFolds.{map-Stmt, fold_out-Stmt, fold_out-Arm}
 use Rattle.net_ir.specs.Value.{reads_of, reads_of_layer}
 use Rattle.net_ir.specs.Target.{target_vars, target_vars_layer, target_reads, target_reads_layer}
 use Rattle.net_ir.specs.Statement.{targets_of, targets_of_layer, arm_targets}
@@ -60,13 +60,26 @@ flat_twice : {X Y Z : Type 0} (g : Y → List Z) (f : X → List Y) (xs : List X
 flat_twice g f [] = refl
 flat_twice g f (x ∷ xs) = flat_map-append g (f x) (flat_map f xs) ∙ ap (λ zs. flat_map g (f x) ++ zs) (flat_twice g f xs)
 
-block_targets : (parts : List Stmt) → targets_of (Block parts) ≡ flat_map targets_of parts
+pub block_targets : (parts : List Stmt) → targets_of (Block parts) ≡ flat_map targets_of parts
 block_targets parts = targets_layer (Block parts) (statement.Block parts) (outs-Block parts) ∙ flat_map-map (λ (ts : List Target). ts) targets_of parts
 
 pub block_named : (parts : List Stmt) → named_in (Block parts) ≡ flat_map named_in parts
 block_named parts = ap named_by (block_targets parts) ∙ flat_twice target_vars targets_of parts
 
-case_targets : (value : Term) (arms : List Arm) → targets_of (Case value arms) ≡ flat_map targets_of_arm arms
+pub if_targets : (test : Term) (first second : Stmt) → targets_of (If test first (Some second)) ≡ targets_of first ++ targets_of second
+if_targets test first second = targets_layer (If test first (Some second)) (statement.If test first (Some second)) (outs-If test first (Some second))
+
+pub if_alone_targets : (test : Term) (first : Stmt) → targets_of (If test first None) ≡ targets_of first
+if_alone_targets test first =
+    targets_layer (If test first None) (statement.If test first None) (outs-If test first None) ∙ append-nil (targets_of first)
+
+pub assign_targets : (blocking : Bool) (to : Target) (value : Term) → targets_of (Assign blocking to value) ≡ to ∷ []
+assign_targets blocking to value = targets_layer (Assign blocking to value) (statement.Assign blocking to value) (outs-Assign blocking to value)
+
+pub arm_targets_are : (arm : Arm) → targets_of_arm arm ≡ targets_of arm.body
+arm_targets_are arm = fold_out-Arm (List Target) (List Target) targets_of_layer arm_targets arm
+
+pub case_targets : (value : Term) (arms : List Arm) → targets_of (Case value arms) ≡ flat_map targets_of_arm arms
 case_targets value arms =
     targets_layer (Case value arms) (statement.Case value arms) (outs-Case value arms) ∙ flat_map-map (λ (ts : List Target). ts) targets_of_arm arms
 
@@ -74,11 +87,6 @@ pub case_named : (value : Term) (arms : List Arm) → named_in (Case value arms)
 case_named value arms =
     ap named_by (case_targets value arms)
     ∙ flat_twice target_vars targets_of_arm arms
-
-pub assign_named : (blocking : Bool) (to : Target) (value : Term) → named_in (Assign blocking to value) ≡ target_vars to
-assign_named blocking to value =
-    ap named_by (targets_layer (Assign blocking to value) (statement.Assign blocking to value) (outs-Assign blocking to value))
-    ∙ append-nil (target_vars to)
 
 -- ---- loops over a list
 

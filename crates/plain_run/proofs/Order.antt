@@ -1,118 +1,129 @@
 -- Drivers that are taken in an order in which no one depends on what it or a later one gives.
-use Rattle.std.proofs.Common.{◌≡◌, ℕ, ◌<◌, ◌^◌, List, [], ◌∷◌, ◌++◌, length, Bool, true, false, refl, sym, ◌∙◌, ap, subst, inl, inr, Option, None, Some}
-use Rattle.std.specs.Prelude.{◌==◌, ◌&&◌, nat_lt, slice_index, slice_get, ◌⊎◌, if◌then◌else◌}
+use Rattle.std.proofs.Common.{◌≡◌, ℕ, List, [], ◌∷◌, length, Bool, true, false, refl, sym, ◌∙◌, ap, Option, None, Some}
+use Rattle.std.specs.Prelude.{slice_index, unwrap_or}
 use Rattle.std.specs.List.{AllByRecursion}
 use Rattle.std.specs.Int.{bit_at}
-use Rattle.std.proofs.lemmas.Bool.{or_parts, or_from}
-use Rattle.std.proofs.lemmas.Nat.Bits.{same_from_bits_below}
-use Rattle.std.proofs.lemmas.List.{get_or-set_same, get_or-set_other, length-set}
+use Rattle.std.proofs.lemmas.Nat.Bits.{same_from_bits}
 use Rattle.net_ir.specs.declared.design.Var.{Var}
 use Rattle.net_ir.specs.declared.design.Driver.{Driver}
 use Rattle.net_ir.specs.declared.design.Driver.TheVariants as driver
 use Rattle.net_ir.specs.declared.design.Driver.TheVariants.{Assign, Comb, Clocked}
-use Rattle.net_ir.specs.declared.statement.Target.{Target}
-use Rattle.net_ir.specs.declared.term.Term.{Term}
-use Rattle.sv_base.specs.declared.refusal.Place.{Place}
-use Rattle.net_ir.specs.Value.{val, widths_of, reads_of}
-use Rattle.net_ir.specs.Target.{may_write, target_vars, target_reads}
+use Rattle.net_ir.specs.Value.{AreWordsOf, val, widths_of, reads_of}
+use Rattle.net_ir.specs.Target.{writes_to, last_bit, target_reads}
 use Rattle.net_ir.specs.Drive.{gives, drives, holds, writes, depends_on, NoneDrives, NoneHolds, NoneWrites}
 use Rattle.net_ir.specs.Face.{stands_in}
 use Rattle.net_ir.specs.Solution.{IsDriven}
-use Rattle.plain_run.specs.Plain.{whole_var, IsWholeAssign, IsWholeAt, IsWholeTo, IsWhole, written_by, driven_by, NoneNames, NoneGives, IsBefore, AreOrdered}
-use Rattle.plain_run.specs.code.Pass.{store_at, effect, run}
-use Rattle.plain_run.proofs.Terms.{AgreeAt, operand_is_local, all_back}
-use Rattle.plain_run.proofs.Elements.{all_from, all_both}
-pub use Rattle.plain_run.proofs.Numbers.{and_of_true, front_of_and, back_of_and, eq_test, test_eq, ne_test, lt_test, test_lt, same_or_not, within_or_past}
-use Rattle.plain_run.proofs.Wholes.{length-widths, width_is, element_at, whole_last, whole_may, whole_vars, all_standing, ungiven, written_named}
+use Rattle.net_values.specs.Writes.{AgreeOn}
+use Rattle.plain_run.specs.Plain.{IsTimely, written_by, driven_by, NoneNames, NoneGives, IsBefore, AreOrdered}
+use Rattle.plain_run.specs.code.Pass.{turn, run}
+use Rattle.net_values.proofs.Elements.{all_from, all_both}
+use Rattle.net_values.proofs.Terms.{all_front, all_back, operand_is_local}
+use Rattle.plain_run.proofs.Named.{all_standing, ungiven, written_named, driven_named}
+use Rattle.net_values.proofs.Overlays.{overlaid_length, overlaid_fits, overlaid_bits}
+use Rattle.net_values.proofs.Targets.{target_within, target_may, target_fixed, writes_local}
 
--- ---- one assignment to the whole of a variable
+-- ---- what one driver gives
 
--- the variable that a whole assignment has as its target
-pub record HasWhole (vars : List Var) (target : Target) (value : Term) : Type 0 where
-  pub var : ℕ
-  pub variable : Var
-  pub is : whole_var target ≡ Some var
-  pub at : slice_get vars var ≡ Some variable
-  pub wide : slice_index (widths_of vars) var ≡ variable.width
-  pub names : target_vars target ≡ var ∷ []
-  pub whole : IsWholeAssign (widths_of vars) var value
+-- a bit that is given is one that the driver may give
+pub given_is_driven : (vars : List Var) (d : Driver) (u : List ℕ) (x k bit : ℕ) → IsTimely d → gives vars d u x k ≡ Some bit → drives vars d x k ≡ true
+given_is_driven vars (Assign target value at) u x k bit timely given = target_may vars u target (val (widths_of vars) u value) x k bit given
+given_is_driven vars (Comb body at) u x k bit timely given = absurd timely
+given_is_driven vars (Clocked triggers body at) u x k bit timely given = absurd (let clash : None ≡ Some bit = given in cc)
+given_is_driven vars (driver.Instance made) u x k bit timely given = absurd timely
 
-pub has_whole : (vars : List Var) (target : Target) (value : Term) → IsWholeTo (widths_of vars) target value → HasWhole vars target value
-has_whole vars target value whole = by_var (whole_var target) refl whole where
-  by_var : (found : Option ℕ) → whole_var target ≡ found → IsWholeAt (widths_of vars) found value → HasWhole vars target value
-  by_var None is there = absurd there
-  by_var (Some var) is there =
-      let v = element_at vars var (subst (λ n. var < n) (length-widths vars) there.there) in record {
-        var = var;
-        variable = v.0;
-        is = is;
-        at = v.1;
-        wide = width_is vars var v.0 v.1;
-        names = whole_vars target var is;
-        whole = there;
-      }
+pub gives_none : (vars : List Var) (d : Driver) (u : List ℕ) (x k : ℕ) → IsTimely d → drives vars d x k ≡ false → gives vars d u x k ≡ None
+gives_none vars d u x k timely free = by_found (gives vars d u x k) refl where
+  by_found : (found : Option ℕ) → gives vars d u x k ≡ found → found ≡ None
+  by_found None is = refl
+  by_found (Some bit) is = absurd (let clash : true ≡ false = sym (given_is_driven vars d u x k bit timely is) ∙ free in cc)
 
--- what it gives
-pub gives_whole : (vars : List Var) (target : Target) (value : Term) (at : Place) (u : List ℕ) (x k : ℕ) (has : HasWhole vars target value) →
-    gives vars (Assign target value at) u x k
-    ≡ (if has.var == x && nat_lt k has.variable.width then Some (bit_at (val (widths_of vars) u value) k) else None)
-gives_whole vars target value at u x k has = whole_last vars u target (val (widths_of vars) u value) has.var has.variable x k has.is has.at
+-- a bit that may be given is given, since positions are constants
+pub driven_is_given : (vars : List Var) (d : Driver) (u : List ℕ) (x k : ℕ) → IsTimely d → drives vars d x k ≡ true →
+    (bit : ℕ) × (gives vars d u x k ≡ Some bit)
+driven_is_given vars (Assign target value at) u x k timely is = target_fixed vars u target timely (val (widths_of vars) u value) x k is
+driven_is_given vars (Comb body at) u x k timely is = absurd timely
+driven_is_given vars (Clocked triggers body at) u x k timely is = absurd (let clash : false ≡ true = is in cc)
+driven_is_given vars (driver.Instance made) u x k timely is = absurd timely
 
--- each bit of its variable is given
-pub gives_bit : (vars : List Var) (target : Target) (value : Term) (at : Place) (u : List ℕ) (k : ℕ) (has : HasWhole vars target value) →
-    k < has.variable.width → gives vars (Assign target value at) u has.var k ≡ Some (bit_at (val (widths_of vars) u value) k)
-gives_bit vars target value at u k has within =
-    gives_whole vars target value at u has.var k has
-    ∙ ap (λ (b : Bool). if b then Some (bit_at (val (widths_of vars) u value) k) else None)
-    (and_of_true (has.var == has.var) (nat_lt k has.variable.width) (eq_test has.var has.var refl) (lt_test k has.variable.width within))
+-- the same is given on valuations that agree on what it depends on
+pub gives_alike : (vars : List Var) (d : Driver) (u v : List ℕ) (x k : ℕ) → IsTimely d → AgreeOn (depends_on d) u v → gives vars d u x k ≡ gives vars d v x k
+gives_alike vars (Assign target value at) u v x k timely agree =
+    let Same : ℕ → Type 0 = λ y. slice_index u y ≡ slice_index v y in
+    let ws = widths_of vars in
+    ap (λ p. last_bit (writes_to vars u target p.1) x k) (operand_is_local ws value u v (all_back Same (target_reads target) (reads_of value) agree))
+    ∙ ap (λ ws. last_bit ws x k) (writes_local vars u v target (val ws v value) (all_front Same (target_reads target) (reads_of value) agree))
+gives_alike vars (Comb body at) u v x k timely agree = absurd timely
+gives_alike vars (Clocked triggers body at) u v x k timely agree = refl
+gives_alike vars (driver.Instance made) u v x k timely agree = absurd timely
 
--- what it leaves in its place
-stores : (vars : List Var) (target : Target) (value : Term) (at : Place) (u : List ℕ) (has : HasWhole vars target value) →
-    effect (widths_of vars) (Assign target value at) u ≡ store_at (Some has.var) (val (widths_of vars) u value) u
-stores vars target value at u has = ap (λ found. store_at found (val (widths_of vars) u value) u) has.is
+-- ---- the words after a driver's turn
 
--- a variable that is not named alone is another
-other_var : (var x : ℕ) (xs : List ℕ) → xs ≡ var ∷ [] → stands_in x xs ≡ false → var ≡ x → ⊥
-other_var var x xs names clear same =
-    let none : (var == x) ≡ false = (or_parts (var == x) false (subst (λ ys. stands_in x ys ≡ false) names clear)).0 in
-    let clash : true ≡ false = sym (eq_test var x same) ∙ none in cc
+pub turn_length : (vars : List Var) (d : Driver) (u : List ℕ) → length (turn vars d u) ≡ length u
+turn_length vars (Assign target value at) u = overlaid_length u (writes_to vars u target (val (widths_of vars) u value))
+turn_length vars (Comb body at) u = refl
+turn_length vars (Clocked triggers body at) u = refl
+turn_length vars (driver.Instance made) u = refl
 
-not_named : (var x : ℕ) (xs : List ℕ) → xs ≡ var ∷ [] → (var ≡ x → ⊥) → stands_in x xs ≡ false
-not_named var x xs names other = subst (λ ys. stands_in x ys ≡ false) (sym names) (or_from (var == x) false (ne_test var x other) refl)
+pub turn_small : (vars : List Var) (d : Driver) (u : List ℕ) → length u ≡ length (widths_of vars) → AreWordsOf (widths_of vars) u →
+    AreWordsOf (widths_of vars) (turn vars d u)
+turn_small vars (Assign target value at) u long small =
+    let word = val (widths_of vars) u value in
+    overlaid_fits (widths_of vars) u (writes_to vars u target word) long (target_within vars u target word) small
+turn_small vars (Comb body at) u long small = small
+turn_small vars (Clocked triggers body at) u long small = small
+turn_small vars (driver.Instance made) u long small = small
 
--- ---- what drivers give at all times and what they hold
+-- each bit is what the driver gives, else as it was
+pub turn_bit : (vars : List Var) (d : Driver) (u : List ℕ) (x k : ℕ) → length u ≡ length (widths_of vars) → IsTimely d →
+    bit_at (slice_index (turn vars d u) x) k ≡ unwrap_or (gives vars d u x k) (bit_at (slice_index u x) k)
+turn_bit vars (Assign target value at) u x k long timely =
+    let word = val (widths_of vars) u value in
+    overlaid_bits (widths_of vars) u (writes_to vars u target word) x k long (target_within vars u target word)
+turn_bit vars (Comb body at) u x k long timely = absurd timely
+turn_bit vars (Clocked triggers body at) u x k long timely = refl
+turn_bit vars (driver.Instance made) u x k long timely = absurd timely
 
--- what is not written is not held, and what is neither given at all times nor held is not written
-pub holds_from_writes : (vars : List Var) (d : Driver) (x k : ℕ) → writes vars d x k ≡ false → holds vars d x k ≡ false
-holds_from_writes vars (Assign target value at) x k clear = refl
-holds_from_writes vars (Comb body at) x k clear = refl
-holds_from_writes vars (Clocked triggers body at) x k clear = clear
-holds_from_writes vars (driver.Instance made) x k clear = refl
+-- so a bit that it may not give is as it was
+turn_spares : (vars : List Var) (d : Driver) (u : List ℕ) (x k : ℕ) → length u ≡ length (widths_of vars) → IsTimely d → drives vars d x k ≡ false →
+    bit_at (slice_index (turn vars d u) x) k ≡ bit_at (slice_index u x) k
+turn_spares vars d u x k long timely free =
+    turn_bit vars d u x k long timely ∙ ap (λ found. unwrap_or found (bit_at (slice_index u x) k)) (gives_none vars d u x k timely free)
 
-writes_from_both : (vars : List Var) (d : Driver) (x k : ℕ) → drives vars d x k ≡ false → holds vars d x k ≡ false → writes vars d x k ≡ false
-writes_from_both vars (Assign target value at) x k free clear = free
-writes_from_both vars (Comb body at) x k free clear = free
-writes_from_both vars (Clocked triggers body at) x k free clear = clear
-writes_from_both vars (driver.Instance made) x k free clear = free
+-- ---- the words after each driver's turn
 
-pub none_holds : (vars : List Var) (drivers : List Driver) (x k : ℕ) → NoneWrites vars drivers x k → NoneHolds vars drivers x k
-none_holds vars drivers x k = all_from (λ d. writes vars d x k ≡ false) (λ d. holds vars d x k ≡ false) (λ d clear. holds_from_writes vars d x k clear) drivers
+pub run_length : (vars : List Var) (drivers : List Driver) (u : List ℕ) → length (run vars drivers u) ≡ length u
+run_length vars [] u = refl
+run_length vars (d ∷ drivers) u = run_length vars drivers (turn vars d u) ∙ turn_length vars d u
 
-pub none_writes : (vars : List Var) (drivers : List Driver) (x k : ℕ) → NoneDrives vars drivers x k → NoneHolds vars drivers x k → NoneWrites vars drivers x k
-none_writes vars drivers x k =
-    all_both (λ d. drives vars d x k ≡ false) (λ d. holds vars d x k ≡ false) (λ d. writes vars d x k ≡ false)
-    (λ d free clear. writes_from_both vars d x k free clear) drivers
+pub run_small : (vars : List Var) (drivers : List Driver) (u : List ℕ) → length u ≡ length (widths_of vars) → AreWordsOf (widths_of vars) u →
+    AreWordsOf (widths_of vars) (run vars drivers u)
+run_small vars [] u long small = small
+run_small vars (d ∷ drivers) u long small = run_small vars drivers (turn vars d u) (turn_length vars d u ∙ long) (turn_small vars d u long small)
 
--- a bit that is held is written
-pub held_is_written : (vars : List Var) (d : Driver) (x k : ℕ) → holds vars d x k ≡ true → writes vars d x k ≡ true
-held_is_written vars (Assign target value at) x k is = absurd (let clash : false ≡ true = is in cc)
-held_is_written vars (Comb body at) x k is = absurd (let clash : false ≡ true = is in cc)
-held_is_written vars (Clocked triggers body at) x k is = is
-held_is_written vars (driver.Instance made) x k is = absurd (let clash : false ≡ true = is in cc)
+-- a bit that none may give is as it was
+pub run_spares : (vars : List Var) (drivers : List Driver) (u : List ℕ) (x k : ℕ) → length u ≡ length (widths_of vars) →
+    AllByRecursion IsTimely drivers → NoneDrives vars drivers x k → bit_at (slice_index (run vars drivers u) x) k ≡ bit_at (slice_index u x) k
+run_spares vars [] u x k long timely none = refl
+run_spares vars (d ∷ drivers) u x k long timely none =
+    run_spares vars drivers (turn vars d u) x k (turn_length vars d u ∙ long) timely.1 none.1 ∙ turn_spares vars d u x k long timely.0 none.0
 
--- so its variable is one that the driver names
-pub held_named : (vars : List Var) (d : Driver) (x k : ℕ) → holds vars d x k ≡ true → stands_in x (written_by d) ≡ true
-held_named vars d x k is = written_named vars d x k (held_is_written vars d x k is)
+-- a driver that gives no bits of a variable gives none of its bits
+pub none_drives : (vars : List Var) (drivers : List Driver) (x k : ℕ) → NoneGives drivers x → NoneDrives vars drivers x k
+none_drives vars drivers x k =
+    all_from (λ d. stands_in x (driven_by d) ≡ false) (λ d. drives vars d x k ≡ false) (λ d clear. ungiven vars d x k clear) drivers
+
+-- so a variable of which none gives bits is as it was
+pub run_leaves : (vars : List Var) (drivers : List Driver) (u : List ℕ) (x : ℕ) → length u ≡ length (widths_of vars) →
+    AllByRecursion IsTimely drivers → NoneGives drivers x → slice_index (run vars drivers u) x ≡ slice_index u x
+run_leaves vars drivers u x long timely none =
+    same_from_bits (slice_index (run vars drivers u) x) (slice_index u x) (λ k. run_spares vars drivers u x k long timely (none_drives vars drivers x k none))
+
+leaves_reads : (vars : List Var) (drivers : List Driver) (u : List ℕ) (xs : List ℕ) → length u ≡ length (widths_of vars) →
+    AllByRecursion IsTimely drivers → AllByRecursion (NoneGives drivers) xs → AgreeOn xs (run vars drivers u) u
+leaves_reads vars drivers u xs long timely =
+    all_from (NoneGives drivers) (λ x. slice_index (run vars drivers u) x ≡ slice_index u x) (λ x none. run_leaves vars drivers u x long timely none) xs
+
+-- ---- what drivers name and give
 
 -- a variable that a driver does not name it does not give at all times
 ungiven_if_unnamed : (d : Driver) (x : ℕ) → stands_in x (written_by d) ≡ false → stands_in x (driven_by d) ≡ false
@@ -131,110 +142,73 @@ pub none_gives : (drivers : List Driver) (x : ℕ) → NoneNames drivers x → N
 none_gives drivers x =
     all_from (λ d. stands_in x (written_by d) ≡ false) (λ d. stands_in x (driven_by d) ≡ false) (λ d clear. ungiven_if_unnamed d x clear) drivers
 
--- and no bit of it
-pub none_drives : (vars : List Var) (drivers : List Driver) (x k : ℕ) → NoneGives drivers x → NoneDrives vars drivers x k
-none_drives vars drivers x k =
-    all_from (λ d. stands_in x (driven_by d) ≡ false) (λ d. drives vars d x k ≡ false) (λ d clear. ungiven vars d x k clear) drivers
+-- the variable of a bit that a driver may give it names
+pub driven_is_named : (vars : List Var) (d : Driver) (x k : ℕ) → drives vars d x k ≡ true → stands_in x (written_by d) ≡ true
+driven_is_named vars d x k is = given_is_named d x (driven_named vars d x k is)
 
--- where no driver of whole variables writes a bit of a variable, none gives that variable at all times
-gives_not : (vars : List Var) (d : Driver) (x k : ℕ) (v : Var) → slice_get vars x ≡ Some v → k < v.width → IsWhole vars d → writes vars d x k ≡ false →
-    stands_in x (driven_by d) ≡ false
-gives_not vars (Assign target value at) x k v there within whole clear =
-    let has = has_whole vars target value whole in
-    not_named has.var x (target_vars target) has.names (λ same.
-    let hits : may_write vars target has.var k ≡ true =
-    whole_may vars target has.var k v has.is (subst (λ y. slice_get vars y ≡ Some v) (sym same) there) within in
-    let clash : true ≡ false = sym hits ∙ subst (λ y. may_write vars target y k ≡ false) (sym same) clear in cc)
-gives_not vars (Comb body at) x k v there within whole clear = absurd whole
-gives_not vars (Clocked triggers body at) x k v there within whole clear = refl
-gives_not vars (driver.Instance made) x k v there within whole clear = absurd whole
+-- what is not written is neither given at all times nor held, and back
+holds_from_writes : (vars : List Var) (d : Driver) (x k : ℕ) → writes vars d x k ≡ false → holds vars d x k ≡ false
+holds_from_writes vars (Assign target value at) x k clear = refl
+holds_from_writes vars (Comb body at) x k clear = refl
+holds_from_writes vars (Clocked triggers body at) x k clear = clear
+holds_from_writes vars (driver.Instance made) x k clear = refl
 
-pub none_gives_bit : (vars : List Var) (drivers : List Driver) (x k : ℕ) (v : Var) → slice_get vars x ≡ Some v → k < v.width →
-    AllByRecursion (IsWhole vars) drivers → NoneWrites vars drivers x k → NoneGives drivers x
-none_gives_bit vars drivers x k v there within =
-    all_both (IsWhole vars) (λ d. writes vars d x k ≡ false) (λ d. stands_in x (driven_by d) ≡ false)
-    (λ d whole clear. gives_not vars d x k v there within whole clear) drivers
+drives_from_writes : (vars : List Var) (d : Driver) (x k : ℕ) → writes vars d x k ≡ false → drives vars d x k ≡ false
+drives_from_writes vars (Assign target value at) x k clear = clear
+drives_from_writes vars (Comb body at) x k clear = clear
+drives_from_writes vars (Clocked triggers body at) x k clear = refl
+drives_from_writes vars (driver.Instance made) x k clear = clear
 
--- ---- what one pass over the drivers leaves
+writes_from_both : (vars : List Var) (d : Driver) (x k : ℕ) → drives vars d x k ≡ false → holds vars d x k ≡ false → writes vars d x k ≡ false
+writes_from_both vars (Assign target value at) x k free clear = free
+writes_from_both vars (Comb body at) x k free clear = free
+writes_from_both vars (Clocked triggers body at) x k free clear = clear
+writes_from_both vars (driver.Instance made) x k free clear = free
 
--- a driver that does not give a variable leaves it
-effect_leaves : (vars : List Var) (d : Driver) (u : List ℕ) (x : ℕ) → IsWhole vars d → stands_in x (driven_by d) ≡ false →
-    slice_index (effect (widths_of vars) d u) x ≡ slice_index u x
-effect_leaves vars (Clocked triggers body at) u x whole clear = refl
-effect_leaves vars (Comb body at) u x whole clear = refl
-effect_leaves vars (driver.Instance made) u x whole clear = refl
-effect_leaves vars (Assign target value at) u x whole clear =
-    let has = has_whole vars target value whole in
-    ap (λ w. slice_index w x) (stores vars target value at u has)
-    ∙ get_or-set_other u has.var x (val (widths_of vars) u value) 0 (λ same. other_var has.var x (target_vars target) has.names clear (sym same))
+pub none_holds : (vars : List Var) (drivers : List Driver) (x k : ℕ) → NoneWrites vars drivers x k → NoneHolds vars drivers x k
+none_holds vars drivers x k = all_from (λ d. writes vars d x k ≡ false) (λ d. holds vars d x k ≡ false) (λ d clear. holds_from_writes vars d x k clear) drivers
 
--- so does a run of such drivers
-pub run_leaves : (vars : List Var) (drivers : List Driver) (u : List ℕ) (x : ℕ) → AllByRecursion (IsWhole vars) drivers → NoneGives drivers x →
-    slice_index (run (widths_of vars) drivers u) x ≡ slice_index u x
-run_leaves vars [] u x whole none = refl
-run_leaves vars (d ∷ drivers) u x whole none =
-    run_leaves vars drivers (effect (widths_of vars) d u) x whole.1 none.1 ∙ effect_leaves vars d u x whole.0 none.0
+pub none_given : (vars : List Var) (drivers : List Driver) (x k : ℕ) → NoneWrites vars drivers x k → NoneDrives vars drivers x k
+none_given vars drivers x k = all_from (λ d. writes vars d x k ≡ false) (λ d. drives vars d x k ≡ false) (λ d clear. drives_from_writes vars d x k clear) drivers
 
-stored_length : (found : Option ℕ) (word : ℕ) (u : List ℕ) → length (store_at found word u) ≡ length u
-stored_length None word u = refl
-stored_length (Some var) word u = length-set u var word
+pub none_writes : (vars : List Var) (drivers : List Driver) (x k : ℕ) → NoneDrives vars drivers x k → NoneHolds vars drivers x k → NoneWrites vars drivers x k
+none_writes vars drivers x k =
+    all_both (λ d. drives vars d x k ≡ false) (λ d. holds vars d x k ≡ false) (λ d. writes vars d x k ≡ false)
+    (λ d free clear. writes_from_both vars d x k free clear) drivers
 
-pub effect_length : (ws : List ℕ) (d : Driver) (u : List ℕ) → length (effect ws d u) ≡ length u
-effect_length ws (Clocked triggers body at) u = refl
-effect_length ws (Comb body at) u = refl
-effect_length ws (driver.Instance made) u = refl
-effect_length ws (Assign target value at) u = stored_length (whole_var target) (val ws u value) u
+-- a bit that is held is written
+pub held_is_written : (vars : List Var) (d : Driver) (x k : ℕ) → holds vars d x k ≡ true → writes vars d x k ≡ true
+held_is_written vars (Assign target value at) x k is = absurd (let clash : false ≡ true = is in cc)
+held_is_written vars (Comb body at) x k is = absurd (let clash : false ≡ true = is in cc)
+held_is_written vars (Clocked triggers body at) x k is = is
+held_is_written vars (driver.Instance made) x k is = absurd (let clash : false ≡ true = is in cc)
 
--- what no driver of a run gives is as it was: all the variables of a list
-leaves_reads : (vars : List Var) (drivers : List Driver) (u : List ℕ) (xs : List ℕ) → AllByRecursion (IsWhole vars) drivers →
-    AllByRecursion (NoneGives drivers) xs → AgreeAt (run (widths_of vars) drivers u) u xs
-leaves_reads vars drivers u xs whole =
-    all_from (NoneGives drivers) (λ x. slice_index (run (widths_of vars) drivers u) x ≡ slice_index u x)
-    (λ x none. run_leaves vars drivers u x whole none) xs
+-- so its variable is one that the driver names
+pub held_named : (vars : List Var) (d : Driver) (x k : ℕ) → holds vars d x k ≡ true → stands_in x (written_by d) ≡ true
+held_named vars d x k is = written_named vars d x k (held_is_written vars d x k is)
 
--- a bit that the assignment of a word to the whole of a variable gives stands in that variable, if its word is that one
-given_bit : (width var x k word bit : ℕ) (u : List ℕ) →
-    (if (var == x) && nat_lt k width then Some (bit_at word k) else None) ≡ Some bit → slice_index u var ≡ word → bit_at (slice_index u x) k ≡ bit
-given_bit width var x k word bit u given stands = by_test ((var == x) && nat_lt k width) refl where
-  by_test : (t : Bool) → ((var == x) && nat_lt k width) ≡ t → bit_at (slice_index u x) k ≡ bit
-  by_test true is =
-      let here : var ≡ x = test_eq var x (front_of_and (var == x) (nat_lt k width) is) in
-      let some : Some (bit_at word k) ≡ Some bit = subst (λ (b : Bool). (if b then Some (bit_at word k) else None) ≡ Some bit) is given in
-      let e : bit_at word k ≡ bit = cc in
-      ap (λ y. bit_at (slice_index u y) k) (sym here) ∙ ap (λ n. bit_at n k) stands ∙ e
-  by_test false is =
-      let none : None ≡ Some bit = subst (λ (b : Bool). (if b then Some (bit_at word k) else None) ≡ Some bit) is given in
-      absurd (let clash : None ≡ Some bit = none in cc)
+-- ---- what stands in the end
 
 -- the first driver of an ordered list gives what stands in the end
-drives_first : (vars : List Var) (d : Driver) (later : List Driver) (u : List ℕ) → length u ≡ length (widths_of vars) → IsWhole vars d →
-    AllByRecursion (IsWhole vars) later → IsBefore d later → IsDriven vars (run (widths_of vars) (d ∷ later) u) d
-drives_first vars (Clocked triggers body at) later u shape whole wholes before x k bit given = absurd (let clash : None ≡ Some bit = given in cc)
-drives_first vars (Comb body at) later u shape whole wholes before x k bit given = absurd whole
-drives_first vars (driver.Instance made) later u shape whole wholes before x k bit given = absurd whole
-drives_first vars (Assign target value at) later u shape whole wholes before x k bit given =
-    let ws = widths_of vars in
-    let d : Driver = Assign target value at in
-    let has = has_whole vars target value whole in
-    let end = run ws (d ∷ later) u in
-    let alone : AllByRecursion (NoneNames later) (has.var ∷ []) = subst (AllByRecursion (NoneNames later)) has.names before.alone in
-    let stored : slice_index (effect ws d u) has.var ≡ val ws u value =
-    ap (λ w. slice_index w has.var) (stores vars target value at u has)
-    ∙ get_or-set_same u has.var (val ws u value) 0 (subst (λ n. has.var < n) (sym shape) has.whole.there) in
-    let stands : slice_index end has.var ≡ val ws u value =
-    run_leaves vars later (effect ws d u) has.var wholes (none_gives later has.var alone.0) ∙ stored in
-    let reads : AgreeAt end u (target_reads target ++ reads_of value) = leaves_reads vars (d ∷ later) u (depends_on d) (whole, wholes) before.settled in
-    let same : val ws end value ≡ val ws u value =
-    ap (λ p. p.1) (operand_is_local ws value end u (all_back (λ y. slice_index end y ≡ slice_index u y) (target_reads target) (reads_of value) reads)) in
-    given_bit has.variable.width has.var x k (val ws end value) bit end (sym (gives_whole vars target value at end x k has) ∙ given) (stands ∙ sym same)
+drives_first : (vars : List Var) (d : Driver) (later : List Driver) (u : List ℕ) → length u ≡ length (widths_of vars) → AllByRecursion IsTimely (d ∷ later) →
+    IsBefore d later → IsDriven vars (run vars (d ∷ later) u) d
+drives_first vars d later u long timely before x k bit given =
+    let end = run vars (d ∷ later) u in
+    let reads : AgreeOn (depends_on d) end u = leaves_reads vars (d ∷ later) u (depends_on d) long timely before.settled in
+    let first : gives vars d u x k ≡ Some bit = sym (gives_alike vars d end u x k timely.0 reads) ∙ given in
+    let named : stands_in x (written_by d) ≡ true = driven_is_named vars d x k (given_is_driven vars d u x k bit timely.0 first) in
+    let none : NoneGives later x = none_gives later x (all_standing (NoneNames later) (written_by d) x before.alone named) in
+    ap (λ n. bit_at n k) (run_leaves vars later (turn vars d u) x (turn_length vars d u ∙ long) timely.1 none)
+    ∙ turn_bit vars d u x k long timely.0
+    ∙ ap (λ found. unwrap_or found (bit_at (slice_index u x) k)) first
 
 -- each driver of an ordered list gives what stands in the end
-pub drives_all : (vars : List Var) (drivers : List Driver) (u : List ℕ) → length u ≡ length (widths_of vars) → AllByRecursion (IsWhole vars) drivers →
-    AreOrdered drivers → AllByRecursion (IsDriven vars (run (widths_of vars) drivers u)) drivers
-drives_all vars [] u shape wholes ordered = tt
-drives_all vars (d ∷ later) u shape wholes ordered = (
-  drives_first vars d later u shape wholes.0 wholes.1 ordered.0,
-  drives_all vars later (effect (widths_of vars) d u) (effect_length (widths_of vars) d u ∙ shape) wholes.1 ordered.1,
+pub drives_all : (vars : List Var) (drivers : List Driver) (u : List ℕ) → length u ≡ length (widths_of vars) → AllByRecursion IsTimely drivers →
+    AreOrdered drivers → AllByRecursion (IsDriven vars (run vars drivers u)) drivers
+drives_all vars [] u long timely ordered = tt
+drives_all vars (d ∷ later) u long timely ordered = (
+  drives_first vars d later u long timely ordered.0,
+  drives_all vars later (turn vars d u) (turn_length vars d u ∙ long) timely.1 ordered.1,
 )
 
 -- ---- registers
@@ -279,49 +253,29 @@ held_alone vars (d ∷ later) ordered = (
 
 -- ---- two valuations that the same drivers drive
 
--- the two agree where no driver of the list gives at all times
-abbrev pub AgreeBut : List Driver → List ℕ → List ℕ → Type 0
-AgreeBut drivers u v = (x : ℕ) → NoneGives drivers x → slice_index u x ≡ slice_index v x
+-- the two agree in bits that no driver of the list may give at all times
+abbrev pub AgreeBut : List Var → List Driver → List ℕ → List ℕ → Type 0
+AgreeBut vars drivers u v = (x k : ℕ) → NoneDrives vars drivers x k → bit_at (slice_index u x) k ≡ bit_at (slice_index v x) k
 
-agree_reads : (drivers : List Driver) (u v : List ℕ) (xs : List ℕ) → AgreeBut drivers u v → AllByRecursion (NoneGives drivers) xs → AgreeAt u v xs
-agree_reads drivers u v xs but = all_from (NoneGives drivers) (λ x. slice_index u x ≡ slice_index v x) but xs
+agree_reads : (vars : List Var) (drivers : List Driver) (u v : List ℕ) (xs : List ℕ) → AgreeBut vars drivers u v → AllByRecursion (NoneGives drivers) xs → AgreeOn xs u v
+agree_reads vars drivers u v xs but =
+    all_from (NoneGives drivers) (λ x. slice_index u x ≡ slice_index v x)
+    (λ x none. same_from_bits (slice_index u x) (slice_index v x) (λ k. but x k (none_drives vars drivers x k none))) xs
 
--- words that fit their variables
-abbrev pub AreSmall : List Var → List ℕ → List ℕ → Type 0
-AreSmall vars u v =
-    (x : ℕ) → x < length (widths_of vars) → (slice_index u x < 2 ^ slice_index (widths_of vars) x) × (slice_index v x < 2 ^ slice_index (widths_of vars) x)
-
--- a driver that reads the same on both valuations drives its variable alike
-drives_alike : (vars : List Var) (d : Driver) (later : List Driver) (u v : List ℕ) → IsWhole vars d → IsBefore d later → AreSmall vars u v →
-    IsDriven vars u d → IsDriven vars v d → AgreeBut (d ∷ later) u v → AgreeBut later u v
-drives_alike vars (Clocked triggers body at) later u v whole before small drives_u drives_v but x none = but x (refl, none)
-drives_alike vars (Comb body at) later u v whole before small drives_u drives_v but x none = absurd whole
-drives_alike vars (driver.Instance made) later u v whole before small drives_u drives_v but x none = absurd whole
-drives_alike vars (Assign target value at) later u v whole before small drives_u drives_v but x none = by_case (same_or_not has.var x) where
-  has : HasWhole vars target value
-  has = has_whole vars target value whole
-
-  by_case : (has.var ≡ x) ⊎ (has.var ≡ x → ⊥) → slice_index u x ≡ slice_index v x
-  by_case (inr other) = but x (not_named has.var x (target_vars target) has.names other, none)
-  by_case (inl here) =
-      let ws = widths_of vars in
-      let d : Driver = Assign target value at in
-      let reads : AgreeAt u v (target_reads target ++ reads_of value) = agree_reads (d ∷ later) u v (depends_on d) but before.settled in
-      let same : val ws u value ≡ val ws v value =
-      ap (λ p. p.1) (operand_is_local ws value u v (all_back (λ y. slice_index u y ≡ slice_index v y) (target_reads target) (reads_of value) reads)) in
-      let bits : (k : ℕ) → k < slice_index ws has.var → bit_at (slice_index u has.var) k ≡ bit_at (slice_index v has.var) k =
-      λ k within. let below : k < has.variable.width = subst (λ n. k < n) has.wide within in
-      drives_u has.var k _ (gives_bit vars target value at u k has below)
-      ∙ ap (λ word. bit_at word k) same
-      ∙ sym (drives_v has.var k _ (gives_bit vars target value at v k has below)) in
-      let fits = small has.var has.whole.there in
-      let e : slice_index u has.var ≡ slice_index v has.var =
-      same_from_bits_below (slice_index ws has.var) (slice_index u has.var) (slice_index v has.var) fits.0 fits.1 bits in
-      subst (λ y. slice_index u y ≡ slice_index v y) here e
+-- a driver that reads the same on both valuations drives its bits alike
+drives_alike : (vars : List Var) (d : Driver) (later : List Driver) (u v : List ℕ) → IsTimely d → IsBefore d later →
+    IsDriven vars u d → IsDriven vars v d → AgreeBut vars (d ∷ later) u v → AgreeBut vars later u v
+drives_alike vars d later u v timely before drives_u drives_v but x k none = by_test (drives vars d x k) refl where
+  by_test : (t : Bool) → drives vars d x k ≡ t → bit_at (slice_index u x) k ≡ bit_at (slice_index v x) k
+  by_test false free = but x k (free, none)
+  by_test true is =
+      let found = driven_is_given vars d u x k timely is in
+      let reads : AgreeOn (depends_on d) u v = agree_reads vars (d ∷ later) u v (depends_on d) but before.settled in
+      drives_u x k found.0 found.1 ∙ sym (drives_v x k found.0 (sym (gives_alike vars d u v x k timely reads) ∙ found.1))
 
 -- so two valuations that agree where no driver gives at all times agree everywhere
-pub agree_all : (vars : List Var) (drivers : List Driver) (u v : List ℕ) → AllByRecursion (IsWhole vars) drivers → AreOrdered drivers → AreSmall vars u v →
-    AllByRecursion (IsDriven vars u) drivers → AllByRecursion (IsDriven vars v) drivers → AgreeBut drivers u v → (x : ℕ) → slice_index u x ≡ slice_index v x
-agree_all vars [] u v wholes ordered small drives_u drives_v but x = but x tt
-agree_all vars (d ∷ later) u v wholes ordered small drives_u drives_v but x =
-    agree_all vars later u v wholes.1 ordered.1 small drives_u.1 drives_v.1 (drives_alike vars d later u v wholes.0 ordered.0 small drives_u.0 drives_v.0 but) x
+pub agree_all : (vars : List Var) (drivers : List Driver) (u v : List ℕ) → AllByRecursion IsTimely drivers → AreOrdered drivers →
+    AllByRecursion (IsDriven vars u) drivers → AllByRecursion (IsDriven vars v) drivers → AgreeBut vars drivers u v → (x : ℕ) → slice_index u x ≡ slice_index v x
+agree_all vars [] u v timely ordered drives_u drives_v but x = same_from_bits (slice_index u x) (slice_index v x) (λ k. but x k tt)
+agree_all vars (d ∷ later) u v timely ordered drives_u drives_v but x =
+    agree_all vars later u v timely.1 ordered.1 drives_u.1 drives_v.1 (drives_alike vars d later u v timely.0 ordered.0 drives_u.0 drives_v.0 but) x

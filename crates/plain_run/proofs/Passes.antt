@@ -1,58 +1,23 @@
 -- What the evaluator's pass leaves.
-use Rattle.std.proofs.Common.{◌≡◌, ℕ, zero, suc, ◌<◌, ◌≤◌, ◌+◌, List, [], ◌∷◌, ◌++◌, length, map, take, drop, get_or, refl, sym, ◌∙◌, ap, subst, arith, Option, None, Some}
-use Rattle.std.specs.Prelude.{slice_index, slice_set}
+use Rattle.std.proofs.Common.{◌≡◌, ℕ, zero, suc, ◌<◌, ◌≤◌, ◌+◌, List, [], ◌∷◌, ◌++◌, length, map, take, drop, get_or, refl, sym, ◌∙◌, ap, subst, arith}
+use Rattle.std.specs.Prelude.{slice_set}
 use Rattle.std.specs.List.{AllByRecursion}
 use Rattle.std.proofs.lemmas.List.{length-map, take_more, take_more_set}
 use Rattle.std.proofs.Common.{take_all, add-one, drop-cons}
-use Rattle.net_ir.specs.declared.term.Term.{Term}
 use Rattle.net_ir.specs.declared.design.Role.{Role}
 use Rattle.net_ir.specs.declared.design.Role.TheVariants.{Input, Output, Inner}
 use Rattle.bit_ops.specs.declared.value.Bits.{Bits}
 use Rattle.net_ir.specs.declared.design.Var.{Var}
-use Rattle.net_ir.specs.declared.statement.Target.{Target}
 use Rattle.net_ir.specs.declared.design.Driver.{Driver}
 use Rattle.bit_ops.specs.Lists.{words, widths}
-use Rattle.net_ir.specs.Value.{widths_of, size}
-use Rattle.plain_run.specs.Plain.{whole_var, IsWholeAt, IsWholeTo}
-use Rattle.plain_run.specs.code.Pass.{IsStorableAt, IsStorable, store_at, store, effect, run, source_at, source_of, sources_of}
-
--- ---- a store
+use Rattle.net_ir.specs.Value.{widths_of}
+use Rattle.plain_run.specs.code.Pass.{turn, run, source_at, source_of, sources_of}
 
 -- what a function of each element gives of a list with one element changed
 pub map-set : {X Y : Type 0} (f : X → Y) (xs : List X) (i : ℕ) (x : X) → map f (slice_set xs i x) ≡ slice_set (map f xs) i (f x)
 map-set f [] i x = refl
 map-set f (y ∷ xs) zero x = refl
 map-set f (y ∷ xs) (suc i) x = ap (λ ys. f y ∷ ys) (map-set f xs i x)
-
--- to store what stands there changes nothing
-set_same : (xs : List ℕ) (i n : ℕ) → n ≡ slice_index xs i → slice_set xs i n ≡ xs
-set_same [] i n is = refl
-set_same (x ∷ xs) zero n is = ap (λ m. m ∷ xs) is
-set_same (x ∷ xs) (suc i) n is = ap (λ ys. x ∷ ys) (set_same xs i n is)
-
-pub stored_at : (target : Target) (var word : ℕ) (u : List ℕ) → whole_var target ≡ Some var → store target word u ≡ slice_set u var word
-stored_at target var word u is = ap (λ found. store_at found word u) is
-
-pub storable_at : (ws : List ℕ) (target : Target) (var width : ℕ) → whole_var target ≡ Some var → IsStorable ws target width →
-    (var < length ws) × (width ≡ slice_index ws var)
-storable_at ws target var width is storable = subst (λ found. IsStorableAt ws found width) is storable
-
-pub stored_widths : (values : List Bits) (target : Target) (var : ℕ) (b : Bits) → whole_var target ≡ Some var → IsStorable (widths values) target b.width →
-    widths (slice_set values var b) ≡ widths values
-stored_widths values target var b is storable =
-    map-set (λ (x : Bits). x.width) values var b ∙ set_same (widths values) var b.width (storable_at (widths values) target var b.width is storable).1
-
-pub stored_words : (values : List Bits) (target : Target) (var : ℕ) (b : Bits) → whole_var target ≡ Some var →
-    words (slice_set values var b) ≡ store target b.word (words values)
-stored_words values target var b is =
-    map-set (λ (x : Bits). x.word) values var b ∙ sym (stored_at target var b.word (words values) is)
-
--- a whole assignment stores a value of its target's width
-pub whole_storable : (ws : List ℕ) (target : Target) (value : Term) (width : ℕ) → IsWholeTo ws target value → width ≡ size ws value → IsStorable ws target width
-whole_storable ws target value width whole is = by_var (whole_var target) whole where
-  by_var : (found : Option ℕ) → IsWholeAt ws found value → IsStorableAt ws found width
-  by_var None none = none
-  by_var (Some var) at = (at.there, is ∙ at.width)
 
 -- ---- the loop over the drivers
 
@@ -62,11 +27,11 @@ all_at P (y ∷ xs) zero x all within is = subst P (sym is) all.0
 all_at P (y ∷ xs) (suc i) x all within is = all_at P xs i x all.1 (omega arith) is
 
 -- one driver more
-pub run_more : (ws : List ℕ) (drivers : List Driver) (i : ℕ) (d : Driver) (u v : List ℕ) → i < length drivers → d ≡ get_or drivers i d → v ≡ effect ws d u →
-    run ws (drop (i + 1) drivers) v ≡ run ws (drop i drivers) u
-run_more ws drivers i d u v within is step =
+pub run_more : (vars : List Var) (drivers : List Driver) (i : ℕ) (d : Driver) (u v : List ℕ) → i < length drivers → d ≡ get_or drivers i d → v ≡ turn vars d u →
+    run vars (drop (i + 1) drivers) v ≡ run vars (drop i drivers) u
+run_more vars drivers i d u v within is step =
     let split : drop i drivers ≡ d ∷ drop (i + 1) drivers = rw (add-one, drop-cons drivers i d within) (ap (λ x. x ∷ drop (suc i) drivers) (sym is)) in
-    ap (run ws (drop (i + 1) drivers)) step ∙ sym (ap (λ ds. run ws ds u) split)
+    ap (run vars (drop (i + 1) drivers)) step ∙ sym (ap (λ ds. run vars ds u) split)
 
 -- ---- what stands before the drivers
 

@@ -16,8 +16,8 @@ use Rattle.plain_run.specs.Plain.{IsPlainClock, IsPlainTrigger, HasPlainClocks}
 use Rattle.net_ir.specs.Marks.{AreMarksOf, is_clear}
 use Rattle.plain_run.specs.code.Marks.{is_input, is_clock_if, is_clock, are_clocks, has_clocks}
 use Rattle.plain_run.proofs.Marking.{same_test, same_from_test}
-use Rattle.plain_run.proofs.Turns.{and_true, and_front, and_back, not_true, true_not}
-use Rattle.plain_run.proofs.Names.{width_is}
+use Rattle.plain_run.proofs.JoinedTests.{and_true, and_front, and_back, not_true, true_not}
+use Rattle.plain_run.proofs.Variables.{width_is}
 
 input_role : (r : Role) → is_input r ≡ true → r ≡ Input
 input_role Input is = refl

@@ -1,10 +1,10 @@
 -- The ports of a plain design: their widths, and the one bit of its clocks.
-use Rattle.std.proofs.Common.{◌≡◌, ℕ, zero, suc, ◌⊎◌, inl, inr, ⊎_elim, Bool, true, false, List, [], ◌∷◌, ◌++◌, slice_index, Option, None, Some, refl, sym, ◌∙◌, ap, subst}
+use Rattle.std.proofs.Common.{◌≡◌, ℕ, suc, ◌⊎◌, inl, inr, ⊎_elim, Bool, true, false, List, [], ◌∷◌, ◌++◌, slice_index, Option, None, Some, refl, sym, ◌∙◌, ap, subst}
 use Rattle.std.specs.Prelude.{slice_get, ◌==◌, ◌||◌}
 use Rattle.std.specs.List.{AllByRecursion, flat_map}
 use Rattle.std.specs.Option.{option_map}
 use Rattle.std.proofs.lemmas.Bool.{false≢true, eqb-true}
-use Rattle.std.proofs.lemmas.Option.{same_Some, slice_get-map, get_or_from_slice_get}
+use Rattle.std.proofs.lemmas.Option.{slice_get-map, get_or_from_slice_get}
 use Rattle.sv_base.specs.declared.face.Class.TheVariants as class
 use Rattle.sv_base.specs.declared.face.Port.{Port}
 use Rattle.bit_ops.specs.Width.{IsWidth}
@@ -20,7 +20,9 @@ use Rattle.net_ir.specs.Value.{widths_of}
 use Rattle.net_ir.specs.Drive.{driver_clocks}
 use Rattle.net_ir.specs.Target.{var_list}
 use Rattle.net_ir.specs.Face.{class_of, input_class, stands_in, clocks_of, all_reads, ports_of}
-use Rattle.plain_run.specs.Plain.{IsPlain, IsPlainClock, IsPlainTrigger, HasPlainClocks, HaveInitialValues}
+use Rattle.plain_run.specs.Plain.{IsPlain, IsPlainClock, IsPlainTrigger, HasPlainClocks}
+use Rattle.net_ir.specs.Lawful.{IsLawfulVar}
+use Rattle.net_values.proofs.Elements.{all_get}
 use Rattle.plain_run.proofs.Ports.{port_is}
 
 -- what holds of the port at each place holds of all
@@ -28,17 +30,13 @@ all_ports : (P : Port → Type 0) (ports : List Port) → ((x : ℕ) (p : Port) 
 all_ports P [] each = tt
 all_ports P (p ∷ ports) each = (each 0 p refl, all_ports P ports (λ x q at. each (suc x) q at))
 
-width_here : (vars : List Var) (x : ℕ) (v : Var) → HaveInitialValues vars → slice_get vars x ≡ Some v → IsWidth v.width
-width_here [] x v have at = absurd (cc)
-width_here (w ∷ vars) zero v have at =
-    let e : w ≡ v = same_Some w v at in
-    let width : IsWidth w.width = subst IsWidth have.0 (w.init.positive, w.init.within) in
-    subst (λ (u : Var). IsWidth u.width) e width
-width_here (w ∷ vars) (suc x) v have at = width_here vars x v have.1 at
+-- the width of a lawful variable is that of its initial value
+lawful_width : (v : Var) → IsLawfulVar v → IsWidth v.width
+lawful_width v lawful = subst IsWidth lawful.initial (v.init.positive, v.init.within)
 
 pub plain_widths : (spec : Spec) → IsPlain spec → AllByRecursion (λ (p : Port). IsWidth p.width) (ports_of spec)
 plain_widths spec plain = all_ports (λ (p : Port). IsWidth p.width) (ports_of spec)
-    (λ x p at. let r = port_is spec x p at in subst (λ (q : Port). IsWidth q.width) (sym r.is) (width_here spec.vars x r.variable plain.vars r.at))
+    (λ x p at. let r = port_is spec x p at in subst (λ (q : Port). IsWidth q.width) (sym r.is) (lawful_width r.variable (all_get IsLawfulVar spec.vars x r.variable plain.lawful.vars r.at)))
 
 any_more : (x z : ℕ) (xs ys : List ℕ) (b : Bool) → (z == x) ≡ b → (b || stands_in x (xs ++ ys)) ≡ true → ((stands_in x (xs ++ ys) ≡ true) → (stands_in x xs ≡ true) ⊎ (stands_in x ys ≡ true)) → ((b || stands_in x xs) ≡ true) ⊎ (stands_in x ys ≡ true)
 any_more x z xs ys true is all rest = inl refl

@@ -14,8 +14,8 @@ use Rattle.net_ir.specs.declared.design.Spec.{Spec}
 use Rattle.net_ir.specs.Drive.{holds, NoneHolds}
 use Rattle.net_ir.specs.Register.{Register, holder_from, onto_run, with_bit, runs_from, registers_from, registers_of, part_of, register_words}
 use Rattle.net_ir.specs.Solution.{IsHeld}
-use Rattle.plain_run.proofs.Elements.{all_from, all_join, all_get}
-use Rattle.plain_run.proofs.Numbers.{front_of_and, back_of_and, test_eq, same_or_not}
+use Rattle.net_values.proofs.Elements.{all_from, all_join, all_get}
+use Rattle.net_values.proofs.Numbers.{front_of_and, back_of_and, test_eq, same_or_not}
 
 -- ---- the bits of a word from a place on
 

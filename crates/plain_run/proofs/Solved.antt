@@ -12,20 +12,21 @@ use Rattle.net_ir.specs.declared.design.Var.{Var}
 use Rattle.net_ir.specs.declared.design.Driver.{Driver}
 use Rattle.net_ir.specs.declared.design.Spec.{Spec}
 use Rattle.bit_ops.specs.Lists.{words, widths}
-use Rattle.net_ir.specs.Value.{widths_of}
+use Rattle.net_ir.specs.Value.{AreWordsOf, widths_of}
 use Rattle.net_ir.specs.Drive.{holds}
 use Rattle.net_ir.specs.Face.{stands_in}
 use Rattle.sv_base.specs.Meaning.{State}
 use Rattle.net_ir.specs.Register.{Register, registers_of}
-use Rattle.net_ir.specs.Solution.{Solves, IsValuation, IsDriven, IsHeld}
+use Rattle.net_ir.specs.Solution.{Solves, IsValuation, IsHeld}
 use Rattle.plain_run.specs.Plain.{IsPlain, IsInput, SparesInputs, written_by, NoneNames, NoneGives}
 use Rattle.plain_run.specs.code.Pass.{run, source_at, source_of, sources_of, state_of, KeepsInitial}
-use Rattle.plain_run.proofs.Elements.{all_both}
-use Rattle.plain_run.proofs.Order.{run_leaves, drives_all, none_gives, none_gives_bit, none_holds, held_alone, held_named}
-use Rattle.plain_run.proofs.Wholes.{all_standing}
+use Rattle.net_values.proofs.Elements.{all_both}
+use Rattle.plain_run.proofs.Order.{run_length, run_small, run_spares, run_leaves, drives_all, none_gives, none_given, none_holds, held_alone, held_named}
+use Rattle.plain_run.proofs.Named.{all_standing}
 use Rattle.plain_run.proofs.Registers.{IsHeldBy, held_registers}
-use Rattle.plain_run.proofs.Unique.{length-widths, width_is}
-use Rattle.plain_run.proofs.Passes.{length_from_widths, source_index, sources_widths}
+use Rattle.net_values.proofs.Variables.{length-widths, width_is}
+use Rattle.plain_run.proofs.Unique.{small_words}
+use Rattle.plain_run.proofs.Passes.{length_from_widths, long_words, source_index, sources_widths}
 
 -- a value at a number below their count
 value_at : (values : List Bits) (x : ℕ) → x < length values → (b : Bits) × (b ≡ get_or values x b)
@@ -129,43 +130,53 @@ spared vars (d ∷ drivers) x spares input = (by_test (stands_in x (written_by d
 
 -- ---- the solution
 
+-- words of the variables' widths are a valuation
+pub valued : (vars : List Var) (u : List ℕ) → length u ≡ length vars → AreWordsOf (widths_of vars) u → IsValuation vars u
+valued vars u each small = record {
+  each = each;
+  fits = λ x v at. subst (λ n. slice_index u x < 2 ^ n) (width_is vars x v at)
+      (small x (subst (λ n. x < n) (sym (length-widths vars)) (slice_get_within vars x v at)));
+}
+
 -- What a pass leaves solves a state, where the inputs stand before it as they are set, all else as it is held, and from what drivers
 -- hold follows what registers have.
-pub pass_solves : (spec : Spec) (state : State) (held before u : List ℕ) → IsPlain spec → IsValuation spec.vars u →
-    length before ≡ length (widths_of spec.vars) →
+pub pass_solves : (spec : Spec) (state : State) (held before : List ℕ) → IsPlain spec → length before ≡ length spec.vars →
+    AreWordsOf (widths_of spec.vars) before →
     ((x : ℕ) (v : Var) → slice_get spec.vars x ≡ Some v → v.role ≡ Input → slice_index before x ≡ slice_index state.inputs x) →
     ((x : ℕ) → (IsInput spec.vars x → ⊥) → slice_index before x ≡ slice_index held x) →
     KeepsInitial spec held →
-    (AllByRecursion (IsHeldBy spec.vars held u) spec.drivers →
-    (i : ℕ) (r : Register) → slice_get (registers_of spec) i ≡ Some r → IsHeld state.registers u i r) →
-    u ≡ run (widths_of spec.vars) spec.drivers before → Solves spec state u
-pass_solves spec state held before u plain valuation before_long before_input before_inner initial registers is_run =
+    (AllByRecursion (IsHeldBy spec.vars held (run spec.vars spec.drivers before)) spec.drivers →
+    (i : ℕ) (r : Register) → slice_get (registers_of spec) i ≡ Some r → IsHeld state.registers (run spec.vars spec.drivers before) i r) →
+    Solves spec state (run spec.vars spec.drivers before)
+pass_solves spec state held before plain each small before_input before_inner initial registers =
     let vars = spec.vars in
-    let leaves : (x : ℕ) → NoneGives spec.drivers x → slice_index u x ≡ slice_index before x =
-    λ x none. ap (λ w. slice_index w x) is_run ∙ run_leaves vars spec.drivers before x plain.whole none in
+    let u = run vars spec.drivers before in
+    let long : length before ≡ length (widths_of vars) = each ∙ sym (length-widths vars) in
+    let leaves : (x : ℕ) → NoneGives spec.drivers x → slice_index u x ≡ slice_index before x = λ x none. run_leaves vars spec.drivers before x long plain.timely none in
     let Apart : Driver → Type 0 = λ d. (x k : ℕ) → holds vars d x k ≡ true → NoneGives spec.drivers x in
     record {
-      valuation = valuation;
+      valuation = valued vars u (run_length vars spec.drivers before ∙ each) (run_small vars spec.drivers before long small);
       set = λ x v at input. leaves x (none_gives spec.drivers x (spared vars spec.drivers x plain.inner (v, at, input))) ∙ before_input x v at input;
       registered = registers (all_both (SparesInputs vars) Apart (IsHeldBy vars held u)
           (λ d spares apart x k holding. ap (λ n. bit_at n k)
           (leaves x (apart x k holding) ∙ before_inner x (all_standing (λ y. IsInput vars y → ⊥) (written_by d) x spares (held_named vars d x k holding))))
           spec.drivers plain.inner (held_alone vars spec.drivers plain.ordered));
-      driven = subst (λ w. AllByRecursion (IsDriven vars w) spec.drivers) (sym is_run)
-          (drives_all vars spec.drivers before before_long plain.whole plain.ordered);
+      driven = drives_all vars spec.drivers before long plain.timely plain.ordered;
       undriven = λ x k v at inner within none.
-          ap (λ n. bit_at n k) (leaves x (none_gives_bit vars spec.drivers x k v at within plain.whole none) ∙ before_inner x (not_input vars x v at inner))
+          run_spares vars spec.drivers before x k long plain.timely (none_given vars spec.drivers x k none)
+          ∙ ap (λ n. bit_at n k) (before_inner x (not_input vars x v at inner))
           ∙ initial x k v at within (none_holds vars spec.drivers x k none);
     }
 
-pub run_solves : (spec : Spec) (inputs held values : List Bits) → IsPlain spec → widths inputs ≡ widths_of spec.vars → widths held ≡ widths_of spec.vars →
-    KeepsInitial spec (words held) → widths values ≡ widths_of spec.vars →
-    words values ≡ run (widths_of spec.vars) spec.drivers (words (sources_of spec.vars inputs held)) → Solves spec (state_of spec inputs held) (words values)
-run_solves spec inputs held values plain is_inputs is_held initial is_values is_run =
+-- a pass over what stands of levels and of held words solves their state
+pub run_solves : (spec : Spec) (inputs held : List Bits) → IsPlain spec → widths inputs ≡ widths_of spec.vars → widths held ≡ widths_of spec.vars →
+    KeepsInitial spec (words held) → Solves spec (state_of spec inputs held) (run spec.vars spec.drivers (words (sources_of spec.vars inputs held)))
+run_solves spec inputs held plain is_inputs is_held initial =
     let vars = spec.vars in
     let sources = sources_of vars inputs held in
-    pass_solves spec (state_of spec inputs held) (words held) (words sources) (words values) plain (are_valuation vars values is_values)
-    (length-map sources (λ b. b.word) ∙ length_from_widths sources vars (sources_widths vars inputs held is_inputs is_held) ∙ sym (length-widths vars))
+    let are : widths sources ≡ widths_of vars = sources_widths vars inputs held is_inputs is_held in
+    pass_solves spec (state_of spec inputs held) (words held) (words sources) plain (long_words sources vars are)
+    (small_words vars (words sources) (are_valuation vars sources are))
     (λ x v at input. before_input vars inputs held x v is_inputs is_held at input)
     (λ x inner. before_inner vars inputs held x is_inputs is_held inner)
-    initial (held_registers spec (words held) (words values)) is_run
+    initial (held_registers spec (words held) (run vars spec.drivers (words sources)))

@@ -5,7 +5,7 @@ use Rattle.std.specs.List.{AllByRecursion}
 use Rattle.std.specs.Int.{bit_at}
 use Rattle.std.proofs.lemmas.List.{get_or_past}
 use Rattle.std.proofs.lemmas.Nat.Bits.{bit_at-lt}
-use Rattle.std.proofs.lemmas.Option.{slice_get_cases, slice_get_within}
+use Rattle.std.proofs.lemmas.Option.{slice_get_cases}
 use Rattle.sv_base.specs.Meaning.{State}
 use Rattle.net_ir.specs.declared.design.Role.{Role}
 use Rattle.net_ir.specs.declared.design.Role.TheVariants.{Input, Output, Inner}
@@ -21,8 +21,8 @@ use Rattle.plain_run.proofs.WordsBy.{words_by, length-words_by, word_at}
 use Rattle.plain_run.proofs.BitWords.{word_of, word_fits, word_bits}
 use Rattle.plain_run.proofs.Registers.{IsHeldBy, register_bit, held_bit}
 use Rattle.plain_run.proofs.Apart.{are_apart, bit_in, bit_below, bit_of_register, bit_not_held}
-use Rattle.plain_run.proofs.Unique.{length-widths, width_is, element_at, input_or_not, one_solution}
-use Rattle.plain_run.proofs.Fits.{ValuesFit, run_small, run_length}
+use Rattle.net_values.proofs.Variables.{length-widths, width_is, element_at}
+use Rattle.plain_run.proofs.Unique.{input_or_not, one_solution}
 use Rattle.plain_run.proofs.Solved.{pass_solves}
 
 -- ---- what is held, and what stands before the drivers
@@ -103,28 +103,15 @@ registers_kept spec state u each i r at k below =
     ∙ bit_of_register (registers_of spec) state.registers i r r.var (r.low + k) (bit_at bit.variable.init.word (r.low + k)) (are_apart spec) at (record { var = refl; from = omega arith; to = omega arith })
     ∙ ap (bit_at (slice_index state.registers i)) (let rest : r.low + k - r.low ≡ k = omega arith in rest)
 
-has_solution : ValuesFit → (spec : Spec) (state : State) → IsPlain spec → HasLevels spec state →
-    Solves spec state (run (widths_of spec.vars) spec.drivers (first_words spec state))
-has_solution law spec state plain levels =
-    let ws = widths_of spec.vars in
-    let before = first_words spec state in
-    let u = run ws spec.drivers before in
-    let each : length before ≡ length spec.vars = length-words_by (first_word spec state) 0 spec.vars in
-    let long : length before ≡ length ws = each ∙ sym (length-widths spec.vars) in
-    let small : AreWordsOf ws u = run_small law spec.vars spec.drivers before long plain.whole (first_small spec state levels) in
-    pass_solves spec state (held_words spec state) before u plain
-    (record {
-      each = run_length ws spec.drivers before ∙ each;
-      fits = λ x v at. subst (λ n. slice_index u x < 2 ^ n) (width_is spec.vars x v at) (small x (within_vars x v at));
-    })
-    long
+has_solution : (spec : Spec) (state : State) → IsPlain spec → HasLevels spec state → Solves spec state (run spec.vars spec.drivers (first_words spec state))
+has_solution spec state plain levels =
+    pass_solves spec state (held_words spec state) (first_words spec state) plain (length-words_by (first_word spec state) 0 spec.vars)
+    (first_small spec state levels)
     (λ x v at input. word_at (first_word spec state) spec.vars x v at ∙ source_level v.role (slice_index state.inputs x) (held_word spec state x v) input)
-    (first_inner spec state) (keeps_initial spec state) (registers_kept spec state u) refl where
-      within_vars : (x : ℕ) (v : Var) → slice_get spec.vars x ≡ Some v → x < length (widths_of spec.vars)
-      within_vars x v at = subst (λ n. x < n) (sym (length-widths spec.vars)) (slice_get_within spec.vars x v at)
+    (first_inner spec state) (keeps_initial spec state) (registers_kept spec state (run spec.vars spec.drivers (first_words spec state)))
 
-pub plain_solution : ValuesFit → (spec : Spec) → IsPlain spec → HasOneSolution spec
-plain_solution law spec plain = record {
-  there = λ state levels. (run (widths_of spec.vars) spec.drivers (first_words spec state), has_solution law spec state plain levels);
+pub plain_solution : (spec : Spec) → IsPlain spec → HasOneSolution spec
+plain_solution spec plain = record {
+  there = λ state levels. (run spec.vars spec.drivers (first_words spec state), has_solution spec state plain levels);
   only = λ state u v a b. one_solution spec state u v plain a b;
 }

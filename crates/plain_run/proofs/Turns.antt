@@ -1,6 +1,6 @@
 -- Drivers from the last to the first, with marks of what the later ones write and of what they give at all times.
 use Rattle.std.proofs.Common.{◌≡◌, ℕ, zero, suc, ◌<◌, ◌≤◌, ◌+◌, ◌-◌, List, [], ◌∷◌, ◌++◌, length, drop, get_or, Bool, true, false, refl, sym, ◌∙◌, ap, subst, arith, add-one, Option, None, Some, inl, inr}
-use Rattle.std.specs.Prelude.{not, ◌&&◌, ◌||◌, ◌==◌, nat_lt, slice_index_or, slice_get, replicate, ◌⊎◌}
+use Rattle.std.specs.Prelude.{not, ◌||◌, ◌==◌, nat_lt, slice_index_or, slice_get, replicate, ◌⊎◌}
 use Rattle.std.specs.List.{AllByRecursion, flat_map}
 use Rattle.std.proofs.lemmas.Bool.Decides.{nat_tests}
 use Rattle.std.proofs.lemmas.List.{get_or_past}
@@ -14,49 +14,16 @@ use Rattle.net_ir.specs.declared.design.Driver.TheVariants.{Assign, Comb, Clocke
 use Rattle.net_ir.specs.Value.{reads_of, widths_of}
 use Rattle.net_ir.specs.Drive.{depends_on}
 use Rattle.net_ir.specs.Face.{stands_in}
+use Rattle.net_ir.specs.Lawful.{IsLawfulDriver}
 use Rattle.net_ir.specs.Marks.{mark_all, AreMarksOf, is_clear}
-use Rattle.plain_run.specs.Plain.{IsWhole, written_by, driven_by, IsInput, SparesInputs, NoneNames, NoneGives, IsBefore, AreOrdered}
+use Rattle.net_values.proofs.Elements.{all_join}
+use Rattle.plain_run.specs.Plain.{IsTimely, written_by, driven_by, IsInput, SparesInputs, NoneNames, NoneGives, IsBefore, AreOrdered}
 use Rattle.plain_run.specs.code.Marks.{is_input}
 use Rattle.plain_run.specs.code.Turns.{input_if, is_free, are_free, are_clear, names_of, given_by, is_settled, takes_turn}
-use Rattle.plain_run.proofs.Names.{Within, all_both, whole_within, whole_unread, statement_within}
+use Rattle.plain_run.proofs.JoinedTests.{and_true, and_front, and_back, or_front, or_back, false_or, or_swap, not_true, true_not}
+use Rattle.plain_run.proofs.Timely.{fixed_unread}
+use Rattle.plain_run.proofs.LawfulNames.{Within, written_within, driven_within}
 use Rattle.plain_run.proofs.Marking.{split_items, marked_at, length_marks, other_test, marks_tell}
-
--- ---- tests
-
-pub and_true : (a b : Bool) → a ≡ true → b ≡ true → (a && b) ≡ true
-and_true a b p q = cc
-
-pub and_front : (a b : Bool) → (a && b) ≡ true → a ≡ true
-and_front true b h = refl
-and_front false b h = h
-
-pub and_back : (a b : Bool) → (a && b) ≡ true → b ≡ true
-and_back true b h = h
-and_back false b h = cc
-
-or_front : (a b : Bool) → (a || b) ≡ false → a ≡ false
-or_front false b h = refl
-or_front true b h = absurd (cc)
-
-or_back : (a b : Bool) → (a || b) ≡ false → b ≡ false
-or_back false b h = h
-or_back true b h = absurd (cc)
-
-false_or : (a b : Bool) → a ≡ false → b ≡ false → (a || b) ≡ false
-false_or a b p q = cc
-
-or_swap : (a b : Bool) → (a || b) ≡ (b || a)
-or_swap true true = refl
-or_swap true false = refl
-or_swap false true = refl
-or_swap false false = refl
-
-pub not_true : (t : Bool) → not t ≡ true → t ≡ false
-not_true false h = refl
-not_true true h = cc
-
-pub true_not : (t : Bool) → t ≡ false → not t ≡ true
-true_not t h = ap not h
 
 -- ---- numbers in lists
 
@@ -92,41 +59,39 @@ marks_join n xs ys marks after are is = record {
 
 -- ---- drivers
 
-names_written : (vars : List Var) (d : Driver) → IsWhole vars d → names_of d ≡ written_by d
-names_written vars (Assign to value place) whole = refl
-names_written vars (Comb body place) whole = absurd whole
-names_written vars (Clocked triggers body place) whole = refl
-names_written vars (driver.Instance made) whole = absurd whole
+names_written : (d : Driver) → IsTimely d → names_of d ≡ written_by d
+names_written (Assign to value place) timely = refl
+names_written (Comb body place) timely = absurd timely
+names_written (Clocked triggers body place) timely = refl
+names_written (driver.Instance made) timely = absurd timely
 
-names_given : (vars : List Var) (d : Driver) → IsWhole vars d → given_by d (names_of d) ≡ driven_by d
-names_given vars (Assign to value place) whole = refl
-names_given vars (Comb body place) whole = absurd whole
-names_given vars (Clocked triggers body place) whole = refl
-names_given vars (driver.Instance made) whole = absurd whole
+names_given : (d : Driver) → IsTimely d → given_by d (names_of d) ≡ driven_by d
+names_given (Assign to value place) timely = refl
+names_given (Comb body place) timely = absurd timely
+names_given (Clocked triggers body place) timely = refl
+names_given (driver.Instance made) timely = absurd timely
 
-written_within : (vars : List Var) (d : Driver) → IsWhole vars d → Within (length (widths_of vars)) (written_by d)
-written_within vars (Assign to value place) whole = whole_within (widths_of vars) to value whole
-written_within vars (Comb body place) whole = absurd whole
-written_within vars (Clocked triggers body place) whole = statement_within vars body whole
-written_within vars (driver.Instance made) whole = absurd whole
+-- a timely and lawful driver
+abbrev pub IsFit : List Var → Driver → Type 0
+IsFit vars d = IsTimely d × IsLawfulDriver vars d
 
-driven_within : (vars : List Var) (d : Driver) → IsWhole vars d → Within (length (widths_of vars)) (driven_by d)
-driven_within vars (Assign to value place) whole = whole_within (widths_of vars) to value whole
-driven_within vars (Comb body place) whole = absurd whole
-driven_within vars (Clocked triggers body place) whole = tt
-driven_within vars (driver.Instance made) whole = absurd whole
+pub all_fit : (vars : List Var) (ds : List Driver) → AllByRecursion IsTimely ds → AllByRecursion (IsLawfulDriver vars) ds → AllByRecursion (IsFit vars) ds
+all_fit vars [] timely lawful = tt
+all_fit vars (d ∷ ds) timely lawful = ((timely.0, lawful.0), all_fit vars ds timely.1 lawful.1)
 
--- the same of several drivers
+-- what several of them name is there
 all_within : (n : ℕ) (P : Driver → Type 0) (f : Driver → List ℕ) → ((d : Driver) → P d → Within n (f d)) → (ds : List Driver) → AllByRecursion P ds →
     Within n (flat_map f ds)
 all_within n P f each [] all = tt
-all_within n P f each (d ∷ ds) all = all_both (λ x. x < n) (f d) (flat_map f ds) (each d all.0) (all_within n P f each ds all.1)
+all_within n P f each (d ∷ ds) all = all_join (λ x. x < n) (f d) (flat_map f ds) (each d all.0) (all_within n P f each ds all.1)
 
-all_written_within : (vars : List Var) (ds : List Driver) → AllByRecursion (IsWhole vars) ds → Within (length (widths_of vars)) (flat_map written_by ds)
-all_written_within vars ds wholes = all_within (length (widths_of vars)) (IsWhole vars) written_by (written_within vars) ds wholes
+all_written_within : (vars : List Var) (ds : List Driver) → AllByRecursion (IsFit vars) ds → Within (length (widths_of vars)) (flat_map written_by ds)
+all_written_within vars ds fit =
+    all_within (length (widths_of vars)) (IsFit vars) written_by (λ d is. written_within vars d is.0 is.1) ds fit
 
-all_driven_within : (vars : List Var) (ds : List Driver) → AllByRecursion (IsWhole vars) ds → Within (length (widths_of vars)) (flat_map driven_by ds)
-all_driven_within vars ds wholes = all_within (length (widths_of vars)) (IsWhole vars) driven_by (driven_within vars) ds wholes
+all_driven_within : (vars : List Var) (ds : List Driver) → AllByRecursion (IsFit vars) ds → Within (length (widths_of vars)) (flat_map driven_by ds)
+all_driven_within vars ds fit =
+    all_within (length (widths_of vars)) (IsFit vars) driven_by (λ d is. driven_within vars d is.0 is.1) ds fit
 
 -- a number stands in none of the lists, or in what they make together
 none_stands : (f : Driver → List ℕ) (ds : List Driver) (x : ℕ) → stands_in x (flat_map f ds) ≡ false → AllByRecursion (λ d. stands_in x (f d) ≡ false) ds
@@ -174,99 +139,98 @@ free_spares vars marks (x ∷ xs) free = (
   free_spares vars marks xs (and_back (is_free vars marks x) (are_free vars marks xs) free),
 )
 
-free_alone : (vars : List Var) (later : List Driver) (marks : List Bool) (xs : List ℕ) → AllByRecursion (IsWhole vars) later →
+free_alone : (vars : List Var) (later : List Driver) (marks : List Bool) (xs : List ℕ) → AllByRecursion (IsFit vars) later →
     AreMarksOf (length (widths_of vars)) (flat_map written_by later) marks → are_free vars marks xs ≡ true → AllByRecursion (NoneNames later) xs
-free_alone vars later marks [] wholes are free = tt
-free_alone vars later marks (x ∷ xs) wholes are free =
+free_alone vars later marks [] fits are free = tt
+free_alone vars later marks (x ∷ xs) fits are free =
     let here : is_free vars marks x ≡ true = and_front (is_free vars marks x) (are_free vars marks xs) free in
     let clear : slice_index_or marks x false ≡ false =
     not_true (slice_index_or marks x false) (and_front (is_clear marks x) (not (input_if (slice_get vars x))) here) in
-    let told = tell_all (length (widths_of vars)) (flat_map written_by later) marks x are (all_written_within vars later wholes) in (
+    let told = tell_all (length (widths_of vars)) (flat_map written_by later) marks x are (all_written_within vars later fits) in (
       none_stands written_by later x (sym told ∙ clear),
-      free_alone vars later marks xs wholes are (and_back (is_free vars marks x) (are_free vars marks xs) free),
+      free_alone vars later marks xs fits are (and_back (is_free vars marks x) (are_free vars marks xs) free),
     )
 
 -- and such variables are free
-alone_free : (vars : List Var) (later : List Driver) (marks : List Bool) (xs : List ℕ) → AllByRecursion (IsWhole vars) later →
+alone_free : (vars : List Var) (later : List Driver) (marks : List Bool) (xs : List ℕ) → AllByRecursion (IsFit vars) later →
     AreMarksOf (length (widths_of vars)) (flat_map written_by later) marks → AllByRecursion (λ x. IsInput vars x → ⊥) xs →
     AllByRecursion (NoneNames later) xs → are_free vars marks xs ≡ true
-alone_free vars later marks [] wholes are spares alone = refl
-alone_free vars later marks (x ∷ xs) wholes are spares alone =
-    let told = tell_all (length (widths_of vars)) (flat_map written_by later) marks x are (all_written_within vars later wholes) in
+alone_free vars later marks [] fits are spares alone = refl
+alone_free vars later marks (x ∷ xs) fits are spares alone =
+    let told = tell_all (length (widths_of vars)) (flat_map written_by later) marks x are (all_written_within vars later fits) in
     let here : is_free vars marks x ≡ true =
     and_true (is_clear marks x) (not (input_if (slice_get vars x)))
     (true_not (slice_index_or marks x false) (told ∙ stands_none written_by later x alone.0))
     (true_not (input_if (slice_get vars x)) (no_input vars x (slice_get vars x) refl spares.0)) in
-    and_true (is_free vars marks x) (are_free vars marks xs) here (alone_free vars later marks xs wholes are spares.1 alone.1)
+    and_true (is_free vars marks x) (are_free vars marks xs) here (alone_free vars later marks xs fits are spares.1 alone.1)
 
 -- nothing gives what has no mark
-clear_reads : (vars : List Var) (ds : List Driver) (marks : List Bool) (xs : List ℕ) → AllByRecursion (IsWhole vars) ds →
+clear_reads : (vars : List Var) (ds : List Driver) (marks : List Bool) (xs : List ℕ) → AllByRecursion (IsFit vars) ds →
     AreMarksOf (length (widths_of vars)) (flat_map driven_by ds) marks → are_clear marks xs ≡ true → AllByRecursion (NoneGives ds) xs
-clear_reads vars ds marks [] wholes are clear = tt
-clear_reads vars ds marks (x ∷ xs) wholes are clear =
+clear_reads vars ds marks [] fits are clear = tt
+clear_reads vars ds marks (x ∷ xs) fits are clear =
     let here : slice_index_or marks x false ≡ false = not_true (slice_index_or marks x false) (and_front (is_clear marks x) (are_clear marks xs) clear) in
-    let told = tell_all (length (widths_of vars)) (flat_map driven_by ds) marks x are (all_driven_within vars ds wholes) in (
+    let told = tell_all (length (widths_of vars)) (flat_map driven_by ds) marks x are (all_driven_within vars ds fits) in (
       none_stands driven_by ds x (sym told ∙ here),
-      clear_reads vars ds marks xs wholes are (and_back (is_clear marks x) (are_clear marks xs) clear),
+      clear_reads vars ds marks xs fits are (and_back (is_clear marks x) (are_clear marks xs) clear),
     )
 
 -- what nothing gives has no mark
-reads_clear : (vars : List Var) (ds : List Driver) (marks : List Bool) (xs : List ℕ) → AllByRecursion (IsWhole vars) ds →
+reads_clear : (vars : List Var) (ds : List Driver) (marks : List Bool) (xs : List ℕ) → AllByRecursion (IsFit vars) ds →
     AreMarksOf (length (widths_of vars)) (flat_map driven_by ds) marks → AllByRecursion (NoneGives ds) xs → are_clear marks xs ≡ true
-reads_clear vars ds marks [] wholes are none = refl
-reads_clear vars ds marks (x ∷ xs) wholes are none =
-    let told = tell_all (length (widths_of vars)) (flat_map driven_by ds) marks x are (all_driven_within vars ds wholes) in
+reads_clear vars ds marks [] fits are none = refl
+reads_clear vars ds marks (x ∷ xs) fits are none =
+    let told = tell_all (length (widths_of vars)) (flat_map driven_by ds) marks x are (all_driven_within vars ds fits) in
     and_true (is_clear marks x) (are_clear marks xs) (true_not (slice_index_or marks x false) (told ∙ stands_none driven_by ds x none.0))
-    (reads_clear vars ds marks xs wholes are none.1)
+    (reads_clear vars ds marks xs fits are none.1)
 
--- what a whole continuous assignment depends on is what its value reads
-value_reads : (vars : List Var) (d : Driver) → IsWhole vars d → (marks : List Bool) → is_settled d marks ≡ are_clear marks (depends_on d)
-value_reads vars (Assign to value place) whole marks =
-    sym (ap (λ reads. are_clear marks (reads ++ reads_of value)) (whole_unread (widths_of vars) to value whole))
-value_reads vars (Comb body place) whole marks = absurd whole
-value_reads vars (Clocked triggers body place) whole marks = refl
-value_reads vars (driver.Instance made) whole marks = absurd whole
+-- what a continuous assignment to constant positions depends on is what its value reads
+value_reads : (d : Driver) → IsTimely d → (marks : List Bool) → is_settled d marks ≡ are_clear marks (depends_on d)
+value_reads (Assign to value place) timely marks = sym (ap (λ reads. are_clear marks (reads ++ reads_of value)) (fixed_unread to timely))
+value_reads (Comb body place) timely marks = absurd timely
+value_reads (Clocked triggers body place) timely marks = refl
+value_reads (driver.Instance made) timely marks = absurd timely
 
 -- the marks when the driver has taken its turn
 abbrev driven_after : Driver → List Bool → List Bool
 driven_after d driven = mark_all (given_by d (names_of d)) driven
 
-driven_marks : (vars : List Var) (d : Driver) (later : List Driver) (driven : List Bool) → IsWhole vars d →
+driven_marks : (vars : List Var) (d : Driver) (later : List Driver) (driven : List Bool) → IsFit vars d →
     AreMarksOf (length (widths_of vars)) (flat_map driven_by later) driven →
     AreMarksOf (length (widths_of vars)) (flat_map driven_by (d ∷ later)) (driven_after d driven)
-driven_marks vars d later driven whole are =
+driven_marks vars d later driven fit are =
     marks_join (length (widths_of vars)) (driven_by d) (flat_map driven_by later) driven (driven_after d driven) are
-    (ap (λ xs. mark_all xs driven) (names_given vars d whole))
+    (ap (λ xs. mark_all xs driven) (names_given d fit.0))
 
-written_marks : (vars : List Var) (d : Driver) (later : List Driver) (written : List Bool) → IsWhole vars d →
+written_marks : (vars : List Var) (d : Driver) (later : List Driver) (written : List Bool) → IsFit vars d →
     AreMarksOf (length (widths_of vars)) (flat_map written_by later) written →
     AreMarksOf (length (widths_of vars)) (flat_map written_by (d ∷ later)) (mark_all (names_of d) written)
-written_marks vars d later written whole are =
+written_marks vars d later written fit are =
     marks_join (length (widths_of vars)) (written_by d) (flat_map written_by later) written (mark_all (names_of d) written) are
-    (ap (λ xs. mark_all xs written) (names_written vars d whole))
+    (ap (λ xs. mark_all xs written) (names_written d fit.0))
 
-turn_sound : (vars : List Var) (d : Driver) (later : List Driver) (written driven : List Bool) → AllByRecursion (IsWhole vars) (d ∷ later) →
+turn_sound : (vars : List Var) (d : Driver) (later : List Driver) (written driven : List Bool) → AllByRecursion (IsFit vars) (d ∷ later) →
     AreTurnMarks (length (widths_of vars)) later written driven → takes_turn vars d written driven ≡ true → SparesInputs vars d × IsBefore d later
-turn_sound vars d later written driven wholes are taken =
-    let names = names_written vars d wholes.0 in
+turn_sound vars d later written driven fits are taken =
+    let names = names_written d fits.0.0 in
     let free : are_free vars written (written_by d) ≡ true =
     ap (are_free vars written) (sym names) ∙ and_front (are_free vars written (names_of d)) (is_settled d (driven_after d driven)) taken in
     let clear : are_clear (driven_after d driven) (depends_on d) ≡ true =
-    sym (value_reads vars d wholes.0 (driven_after d driven)) ∙ and_back (are_free vars written (names_of d)) (is_settled d (driven_after d driven)) taken in (
+    sym (value_reads d fits.0.0 (driven_after d driven)) ∙ and_back (are_free vars written (names_of d)) (is_settled d (driven_after d driven)) taken in (
       free_spares vars written (written_by d) free,
       record {
-        alone = free_alone vars later written (written_by d) wholes.1 are.written_is free;
-        settled = clear_reads vars (d ∷ later) (driven_after d driven) (depends_on d) wholes (driven_marks vars d later driven wholes.0 are.driven_is) clear;
+        alone = free_alone vars later written (written_by d) fits.1 are.written_is free;
+        settled = clear_reads vars (d ∷ later) (driven_after d driven) (depends_on d) fits (driven_marks vars d later driven fits.0 are.driven_is) clear;
       },
     )
 
-turn_complete : (vars : List Var) (d : Driver) (later : List Driver) (written driven : List Bool) → AllByRecursion (IsWhole vars) (d ∷ later) →
+turn_complete : (vars : List Var) (d : Driver) (later : List Driver) (written driven : List Bool) → AllByRecursion (IsFit vars) (d ∷ later) →
     AreTurnMarks (length (widths_of vars)) later written driven → SparesInputs vars d → IsBefore d later → takes_turn vars d written driven ≡ true
-turn_complete vars d later written driven wholes are spares before =
+turn_complete vars d later written driven fits are spares before =
     and_true (are_free vars written (names_of d)) (is_settled d (driven_after d driven))
-    (ap (are_free vars written) (names_written vars d wholes.0) ∙ alone_free vars later written (written_by d) wholes.1 are.written_is spares before.alone)
-    (value_reads vars d wholes.0 (driven_after d driven)
-    ∙ reads_clear vars (d ∷ later) (driven_after d driven) (depends_on d) wholes (driven_marks vars d later driven wholes.0 are.driven_is) before.settled)
+    (ap (are_free vars written) (names_written d fits.0.0) ∙ alone_free vars later written (written_by d) fits.1 are.written_is spares before.alone)
+    (value_reads d fits.0.0 (driven_after d driven)
+    ∙ reads_clear vars (d ∷ later) (driven_after d driven) (depends_on d) fits (driven_marks vars d later driven fits.0 are.driven_is) before.settled)
 
 -- ---- the loop over the drivers
 
@@ -311,14 +275,14 @@ pub record AreTaken (vars : List Var) (drivers : List Driver) (written driven : 
 
 -- one turn more
 pub turn_step : (vars : List Var) (drivers : List Driver) (t : ℕ) (d : Driver) (written driven after_written after_driven : List Bool) →
-    AllByRecursion (IsWhole vars) drivers → 0 < t → t ≤ length drivers → d ≡ get_or drivers (t - 1) d →
+    AllByRecursion (IsFit vars) drivers → 0 < t → t ≤ length drivers → d ≡ get_or drivers (t - 1) d →
     AreTaken vars (drop t drivers) written driven → takes_turn vars d written driven ≡ true → after_written ≡ mark_all (names_of d) written →
     after_driven ≡ mark_all (given_by d (names_of d)) driven → AreTaken vars (drop (t - 1) drivers) after_written after_driven
-turn_step vars drivers t d written driven after_written after_driven wholes some within is taken takes marks_written marks_driven =
+turn_step vars drivers t d written driven after_written after_driven fits some within is taken takes marks_written marks_driven =
     let n = length (widths_of vars) in
     let later = drop t drivers in
     let split : drop (t - 1) drivers ≡ d ∷ later = split_before drivers t d some within is in
-    let both : AllByRecursion (IsWhole vars) (d ∷ later) = subst (AllByRecursion (IsWhole vars)) split (all_dropped (IsWhole vars) drivers (t - 1) wholes) in
+    let both : AllByRecursion (IsFit vars) (d ∷ later) = subst (AllByRecursion (IsFit vars)) split (all_dropped (IsFit vars) drivers (t - 1) fits) in
     let sound = turn_sound vars d later written driven both taken.marks takes in
     subst (λ ds. AreTaken vars ds after_written after_driven) (sym split) (record {
       marks = record {
@@ -333,13 +297,13 @@ turn_step vars drivers t d written driven after_written after_driven wholes some
 
 -- a turn that can't be taken
 pub turn_fails : (vars : List Var) (drivers : List Driver) (t : ℕ) (d : Driver) (written driven : List Bool) →
-    AllByRecursion (IsWhole vars) drivers → 0 < t → t ≤ length drivers → d ≡ get_or drivers (t - 1) d →
+    AllByRecursion (IsFit vars) drivers → 0 < t → t ≤ length drivers → d ≡ get_or drivers (t - 1) d →
     AreTaken vars (drop t drivers) written driven → takes_turn vars d written driven ≡ false →
     AllByRecursion (SparesInputs vars) drivers × AreOrdered drivers → ⊥
-turn_fails vars drivers t d written driven wholes some within is taken takes fine =
+turn_fails vars drivers t d written driven fits some within is taken takes fine =
     let later = drop t drivers in
     let split : drop (t - 1) drivers ≡ d ∷ later = split_before drivers t d some within is in
-    let both : AllByRecursion (IsWhole vars) (d ∷ later) = subst (AllByRecursion (IsWhole vars)) split (all_dropped (IsWhole vars) drivers (t - 1) wholes) in
+    let both : AllByRecursion (IsFit vars) (d ∷ later) = subst (AllByRecursion (IsFit vars)) split (all_dropped (IsFit vars) drivers (t - 1) fits) in
     let before : IsBefore d later =
     subst (λ n. IsBefore d (drop n drivers)) (before_suc t some) (ordered_at drivers (t - 1) d fine.1 (omega arith) is) in
     let yes : takes_turn vars d written driven ≡ true =

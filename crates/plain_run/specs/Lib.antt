@@ -1,5 +1,4 @@
 pub mod Places
 pub mod Settled
 pub mod Plain
-pub mod PlainForm
 pub mod code

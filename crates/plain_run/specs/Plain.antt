@@ -1,71 +1,29 @@
 -- Designs whose drivers can be taken in the order of the text, variable by variable.
-use Rattle.std.specs.Prelude.{◌≡◌, ℕ, ◌<◌, List, [], ◌∷◌, length, Option, None, Some, false, slice_get, slice_index, ⊤}
+use Rattle.std.specs.Prelude.{◌≡◌, ℕ, false, List, [], ◌∷◌, Option, None, Some, slice_get, slice_index, ⊤}
 use Rattle.std.specs.List.{AllByRecursion, flat_map}
-use Rattle.net_ir.specs.declared.term.Term.{Term}
 use Rattle.net_ir.specs.declared.design.Role.TheVariants.{Input}
 use Rattle.net_ir.specs.declared.design.Var.{Var}
 use Rattle.net_ir.specs.declared.statement.Target.{Target}
-use Rattle.net_ir.specs.declared.statement.Target.TheOpen as target
-use Rattle.net_ir.specs.declared.statement.Target.TheOpen.{Target-F}
-use Rattle.net_ir.specs.declared.statement.Target.TheViews.{out-Target}
-use Rattle.net_ir.specs.declared.statement.Arm.{Arm}
-use Rattle.net_ir.specs.declared.statement.Stmt.{Stmt}
-use Rattle.net_ir.specs.declared.statement.Stmt.TheOpen as statement
-use Rattle.net_ir.specs.declared.statement.Stmt.TheOpen.{Stmt-F}
-use Rattle.net_ir.specs.declared.statement.Stmt.TheFolds.{every-Stmt}
 use Rattle.net_ir.specs.declared.design.Trigger.{Trigger}
 use Rattle.net_ir.specs.declared.design.Driver.{Driver}
 use Rattle.net_ir.specs.declared.design.Driver.TheVariants as driver
 use Rattle.net_ir.specs.declared.design.Driver.TheVariants.{Assign, Comb, Clocked}
 use Rattle.net_ir.specs.declared.design.Spec.{Spec}
-use Rattle.net_ir.specs.Value.{widths_of, size}
-use Rattle.net_ir.specs.Lawful.{IsLawful}
+use Rattle.net_ir.specs.Value.{widths_of}
+use Rattle.net_ir.specs.Lawful.{IsLawfulSpec}
 use Rattle.net_ir.specs.Target.{target_vars}
 use Rattle.net_ir.specs.Statement.{targets_of}
 use Rattle.net_ir.specs.Drive.{depends_on, instance_targets}
 use Rattle.net_ir.specs.Face.{stands_in, all_reads}
-use Rattle.net_ir.specs.Facts.{HasPortsFirst}
+use Rattle.net_values.specs.Positions.{HasFixedPositions}
+use Rattle.driver_check.specs.Written.{wrong_assigns}
 
--- the variable of which a target is the whole, where it is that of one
-abbrev pub whole_var_layer : Target-F Target → Option ℕ
-whole_var_layer (target.Of var name place None) = var
-whole_var_layer (target.Of var name place (Some p)) = None
-whole_var_layer (target.List parts) = None
-
-abbrev pub whole_var : Target → Option ℕ
-whole_var to = whole_var_layer (out-Target to)
-
--- a lawful term is assigned to the whole of a variable of its width that is there
-pub record IsWholeAssign (ws : List ℕ) (var : ℕ) (value : Term) : Type 0 where
-  pub there : var < length ws
-  pub width : size ws value ≡ slice_index ws var
-  pub lawful : IsLawful ws value
-
-abbrev pub IsWholeAt : List ℕ → Option ℕ → Term → Type 0
-IsWholeAt ws None value = ⊥
-IsWholeAt ws (Some var) value = IsWholeAssign ws var value
-
--- so to this target
-abbrev pub IsWholeTo : List ℕ → Target → Term → Type 0
-IsWholeTo ws to value = IsWholeAt ws (whole_var to) value
-
--- one layer of a statement that makes only such assignments, nonblocking
-abbrev pub IsPlainLayer : List Var → Stmt-F Stmt Arm → Type 0
-IsPlainLayer vars (statement.Block parts) = ⊤
-IsPlainLayer vars (statement.If test first second) = ⊥
-IsPlainLayer vars (statement.Case value arms) = ⊥
-IsPlainLayer vars (statement.Assign blocking to value) = (blocking ≡ false) × IsWholeTo (widths_of vars) to value
-
--- a statement each layer of which is one
-abbrev pub IsPlainStmt : List Var → Stmt → Type 0
-IsPlainStmt vars = every-Stmt (IsPlainLayer vars) (λ arm. ⊤)
-
--- a continuous assignment to the whole of a variable, or a clocked process of such statements
-abbrev pub IsWhole : List Var → Driver → Type 0
-IsWhole vars (Assign to value place) = IsWholeTo (widths_of vars) to value
-IsWhole vars (Comb body place) = ⊥
-IsWhole vars (Clocked triggers body place) = IsPlainStmt vars body
-IsWhole vars (driver.Instance made) = ⊥
+-- a continuous assignment to constant positions, or a clocked process
+abbrev pub IsTimely : Driver → Type 0
+IsTimely (Assign to value place) = HasFixedPositions to
+IsTimely (Comb body place) = ⊥
+IsTimely (Clocked triggers body place) = ⊤
+IsTimely (driver.Instance made) = ⊥
 
 -- the variables that targets name
 abbrev pub named_by : List Target → List ℕ
@@ -127,28 +85,12 @@ HasPlainClocks spec (Comb body place) = ⊤
 HasPlainClocks spec (Clocked triggers body place) = AllByRecursion (λ (t : Trigger). IsPlainTrigger spec t.var) triggers
 HasPlainClocks spec (driver.Instance made) = ⊤
 
--- variable x is no net
-abbrev pub IsNoNet : List Var → ℕ → Type 0
-IsNoNet vars x = (v : Var) → slice_get vars x ≡ Some v → v.wire ≡ false
-
--- a process assigns to variables alone, no nets (IEEE 1800-2017, 6.5 and 10.4)
-abbrev pub WritesNoNet : List Var → Driver → Type 0
-WritesNoNet vars (Assign to value place) = ⊤
-WritesNoNet vars (Comb body place) = AllByRecursion (IsNoNet vars) (named_by (targets_of body))
-WritesNoNet vars (Clocked triggers body place) = AllByRecursion (IsNoNet vars) (named_by (targets_of body))
-WritesNoNet vars (driver.Instance made) = ⊤
-
--- each variable has an initial value of its width
-abbrev pub HaveInitialValues : List Var → Type 0
-HaveInitialValues vars = AllByRecursion (λ v. v.init.width ≡ v.width) vars
-
--- the drivers can be taken in the order of the text, clocks are apart from what expressions read, no process writes a net, and the
--- ports are the first variables
+-- a lawful design whose drivers can be taken in the order of the text, variable by variable; processes assign rightly, and clocks are
+-- apart from what expressions read
 pub record IsPlain (spec : Spec) : Type 0 where
-  pub vars : HaveInitialValues spec.vars
-  pub whole : AllByRecursion (IsWhole spec.vars) spec.drivers
+  pub lawful : IsLawfulSpec spec
+  pub timely : AllByRecursion IsTimely spec.drivers
+  pub rightly : wrong_assigns spec ≡ []
   pub inner : AllByRecursion (SparesInputs spec.vars) spec.drivers
   pub ordered : AreOrdered spec.drivers
   pub clocks : AllByRecursion (HasPlainClocks spec) spec.drivers
-  pub nets : AllByRecursion (WritesNoNet spec.vars) spec.drivers
-  pub ports : HasPortsFirst spec

@@ -1,5 +1,4 @@
-pub mod Pass
 pub mod Marks
+pub mod Timely
 pub mod Turns
-pub mod Forming
-pub mod Whole
+pub mod Pass

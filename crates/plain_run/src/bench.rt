@@ -7,7 +7,8 @@ ghost use Rattle.sv_base.specs.Classes.{is_value, is_clock, is_output, level_wor
 ghost use Rattle.sv_base.specs.Meaning.{held_in, widths_of_class};
 ghost use Rattle.net_ir.specs.Face.{ports_of, face_of};
 ghost use Rattle.net_ir.specs.Value.{widths_of};
-ghost use Rattle.plain_run.specs.Plain.{HaveInitialValues, IsPlain};
+ghost use Rattle.net_ir.specs.Lawful.{IsLawfulVar};
+ghost use Rattle.plain_run.specs.Plain.{IsPlain};
 ghost use Rattle.plain_run.specs.code.Pass.{KeepsInitial, state_of};
 ghost use Rattle.net_ir.specs.Run.{start};
 ghost use Rattle.net_ir.specs.Solution.{Solves};
@@ -161,7 +162,7 @@ fn places_of(alloc: Global, ports: &[Port], class: Class) -> Result<Vec<usize>, 
 
 /// A value for each variable, all 0.
 fn zeros(alloc: Global, vars: &[Var]) -> Result<Vec<Bits>, AllocError>
-    requires { HaveInitialValues vars.now }
+    requires { AllByRecursion IsLawfulVar vars.now }
     ensures widths { IfOk result (λ values. widths values.items ≡ widths_of vars.now) }
     ensures words { IfOk result (λ values. words values.items ≡ map (λ _. 0) vars.now) }
 {
@@ -174,7 +175,7 @@ fn zeros(alloc: Global, vars: &[Var]) -> Result<Vec<Bits>, AllocError>
 
 /// The initial value of each variable.
 fn initial_values(alloc: Global, vars: &[Var]) -> Result<Vec<Bits>, AllocError>
-    requires { HaveInitialValues vars.now }
+    requires { AllByRecursion IsLawfulVar vars.now }
     ensures widths { IfOk result (λ values. widths values.items ≡ widths_of vars.now) }
     ensures words { IfOk result (λ values. words values.items ≡ map (λ v. v.init.word) vars.now) }
 {

@@ -14,9 +14,7 @@ ghost use Rattle.plain_run.specs.Plain.{IsPlain};
 /// A plain design has exactly one solution in each state whose levels fit.
 pub fn plain_solution()
     ensures { (spec : Spec) → IsPlain spec → HasOneSolution spec }
-{
-    net_ir::law::lawful_values();
-}
+{}
 
 /// In a plain design idle inputs change nothing that is seen.
 pub fn plain_idle()

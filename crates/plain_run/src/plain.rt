@@ -1,46 +1,109 @@
 //! Whether a design's drivers can be taken in the order of the text.
 
-ghost use Rattle.std.specs.Prelude.{◌≡◌, ◌↔◌, true, IsTrue, IfOk, OnOk};
+ghost use Rattle.std.specs.Prelude.{◌≡◌, ◌↔◌, [], true, IsTrue, IfOk, OnOk};
 ghost use Rattle.std.specs.List.{AllByRecursion};
 ghost use Rattle.net_ir.specs.Value.{reads_of};
 ghost use Rattle.net_ir.specs.Target.{target_vars};
-ghost use Rattle.net_ir.specs.Facts.{HasPortsFirst};
+ghost use Rattle.net_ir.specs.Lawful.{IsLawfulDriver, IsLawfulSpec};
 ghost use Rattle.net_ir.specs.Marks.{mark_all};
-ghost use Rattle.plain_run.specs.Plain.{HaveInitialValues, IsWhole, SparesInputs, AreOrdered, HasPlainClocks, WritesNoNet, IsPlain};
+ghost use Rattle.driver_check.specs.Written.{wrong_assigns};
+ghost use Rattle.plain_run.specs.Plain.{IsTimely, SparesInputs, AreOrdered, HasPlainClocks, IsPlain};
 ghost use Rattle.plain_run.specs.code.Marks.{named_in, is_input, is_clock, are_clocks, has_clocks};
-ghost use Rattle.plain_run.specs.code.Turns.{is_free, are_free, are_clear, names_of, given_by, is_settled, takes_turn, is_no_net, are_no_nets, writes_no_net};
+ghost use Rattle.plain_run.specs.code.Timely.{has_fixed_position, has_fixed_positions, is_timely};
+ghost use Rattle.plain_run.specs.code.Turns.{is_free, are_free, are_clear, names_of, given_by, is_settled, takes_turn};
 
 use crate::marks::{mark_each, push_target, push_targets};
+use driver_check::{DriverFault, written_rightly};
 use net_ir::marks::{is_clear, read_marks};
-use net_ir::outside::is_inner;
-use net_ir::{Driver, Role, Spec, Stmt, Target, Term, Trigger, Var};
+use net_ir::{Driver, Pos, Role, Spec, Stmt, Target, Term, Trigger, Var};
+use net_values::is_constant;
 use std::alloc::{AllocError, Global};
 
-/// Whether a design of whole assignments is plain: no variable has two drivers, no driver writes an input, no
-/// assignment reads what it or a later one gives at all times, each event control names an input of one bit that no
-/// expression reads, no process writes a net (IEEE 1800-2017, 6.5 and 10.4), and the ports are the first variables.
-/// The work is linear in the design.
+/// Whether a lawful design is plain: each driver is a continuous assignment to constant positions or a clocked process, what processes assign
+/// is assigned rightly (IEEE 1800-2017, 6.5 and 10.4), no variable has two drivers, no driver writes an input, no assignment reads what it or
+/// a later one gives at all times, and each event control names an input of one bit that no expression reads. The work is linear in the
+/// design.
 pub fn is_plain(alloc: Global, spec: &Spec) -> Result<bool, AllocError>
-    requires vars { HaveInitialValues spec.now.vars }
-    requires whole { AllByRecursion (IsWhole spec.now.vars) spec.now.drivers }
+    requires lawful { IsLawfulSpec spec.now }
     ensures { IfOk result (λ yes. IsTrue yes ↔ IsPlain spec.now) }
 {
+    if !are_timely(spec.drivers.as_slice()) {
+        return Ok(false);
+    }
+    if !is_written_rightly(alloc, spec)? {
+        return Ok(false);
+    }
     if !can_be_taken_in_order(alloc, spec)? {
-        return Ok(false);
-    }
-    if !write_no_nets(alloc, spec)? {
-        return Ok(false);
-    }
-    if !has_ports_first(spec) {
         return Ok(false);
     }
     have_clocks(alloc, spec)
 }
 
-/// Whether in a design of whole assignments no variable has two drivers, no driver writes an input, and no
-/// assignment reads what it or a later one gives at all times.
+/// Whether each driver is a continuous assignment to constant positions, or a clocked process.
+fn are_timely(drivers: &[Driver]) -> bool
+    ensures { IsTrue result ↔ AllByRecursion IsTimely drivers.now }
+{
+    for driver in drivers {
+        if !is_timely(driver) {
+            return false;
+        }
+    }
+    true
+}
+
+/// Whether a driver is one of these.
+fn is_timely(driver: &Driver) -> bool
+    ensures { result ≡ is_timely driver.now }
+{
+    match driver {
+        Driver::Assign { target, .. } => has_fixed_positions(target),
+        Driver::Clocked { .. } => true,
+        Driver::Comb { .. } | Driver::Instance(_) => false,
+    }
+}
+
+/// Whether each position in a target is a constant.
+fn has_fixed_positions(target: &Target) -> bool
+    ensures { result ≡ has_fixed_positions target.now }
+{
+    match target {
+        Target::Of { pos, .. } => has_fixed_position(pos),
+        Target::List(parts) => {
+            for part in parts.as_slice() {
+                if !has_fixed_positions(part) {
+                    return false;
+                }
+            }
+            true
+        }
+    }
+}
+
+/// Whether a position, where there is one, is a constant.
+fn has_fixed_position(pos: &Option<Pos>) -> bool
+    ensures { result ≡ has_fixed_position pos.now }
+{
+    match pos {
+        Some(pos) => is_constant(&pos.at),
+        None => true,
+    }
+}
+
+/// Whether no assignment is wrong.
+fn is_written_rightly(alloc: Global, spec: &Spec) -> Result<bool, AllocError>
+    ensures { IfOk result (λ yes. IsTrue yes ↔ (wrong_assigns spec.now ≡ [])) }
+{
+    match written_rightly(alloc, spec) {
+        Ok(()) => Ok(true),
+        Err(DriverFault::Refused(_)) => Ok(false),
+        Err(DriverFault::NoMemory) => Err(AllocError),
+    }
+}
+
+/// Whether no variable has two drivers, no driver writes an input, and no assignment reads what it or a later one gives at all times.
 fn can_be_taken_in_order(alloc: Global, spec: &Spec) -> Result<bool, AllocError>
-    requires whole { AllByRecursion (IsWhole spec.now.vars) spec.now.drivers }
+    requires lawful { AllByRecursion (IsLawfulDriver spec.now.vars) spec.now.drivers }
+    requires timely { AllByRecursion IsTimely spec.now.drivers }
     ensures { IfOk result (λ yes. IsTrue yes ↔ (AllByRecursion (SparesInputs spec.now.vars) spec.now.drivers × AreOrdered spec.now.drivers)) }
 {
     let vars = spec.vars.as_slice();
@@ -175,69 +238,6 @@ fn is_unread(term: &Term, marks: &[bool]) -> bool
             true
         }
     }
-}
-
-/// Whether no process writes a net.
-fn write_no_nets(alloc: Global, spec: &Spec) -> Result<bool, AllocError>
-    ensures { IfOk result (λ yes. IsTrue yes ↔ AllByRecursion (WritesNoNet spec.now.vars) spec.now.drivers) }
-{
-    let vars = spec.vars.as_slice();
-    for driver in spec.drivers.as_slice() {
-        if !writes_no_net(alloc, driver, vars)? {
-            return Ok(false);
-        }
-    }
-    Ok(true)
-}
-
-/// Whether a driver is no process that writes a net. Continuous assignments may write nets and variables.
-fn writes_no_net(alloc: Global, driver: &Driver, vars: &[Var]) -> Result<bool, AllocError>
-    ensures { IfOk result (λ yes. yes ≡ writes_no_net vars.now driver.now) }
-{
-    match driver {
-        Driver::Assign { .. } | Driver::Instance(_) => Ok(true),
-        Driver::Comb { body, .. } | Driver::Clocked { body, .. } => {
-            let names = body_names(alloc, body)?;
-            Ok(are_no_nets(&names, vars))
-        }
-    }
-}
-
-/// Whether none of these variables is a net.
-fn are_no_nets(names: &[u32], vars: &[Var]) -> bool
-    ensures { result ≡ are_no_nets vars.now names.now }
-{
-    for var in names {
-        if !is_no_net(vars, *var as usize) {
-            return false;
-        }
-    }
-    true
-}
-
-/// Whether a variable is no net.
-fn is_no_net(vars: &[Var], var: usize) -> bool
-    ensures { result ≡ is_no_net vars.now var }
-{
-    match vars.get(var) {
-        Some(var) => !var.wire,
-        None => true,
-    }
-}
-
-/// Whether no port stands behind a variable that only the module sees.
-fn has_ports_first(spec: &Spec) -> bool
-    ensures { IsTrue result ↔ HasPortsFirst spec.now }
-{
-    let mut behind = false;
-    for var in spec.vars.as_slice() {
-        if is_inner(var) {
-            behind = true;
-        } else if behind {
-            return false;
-        }
-    }
-    true
 }
 
 /// Whether each event control names an input of one bit that no expression reads.

@@ -1,19 +1,20 @@
 //! Clock steps: what the registers of clocked processes take at an edge.
 
 ghost use Rattle.std.specs.Prelude.{◌≡◌, slice_index};
-ghost use Rattle.std.specs.List.{AllByRecursion, list_any};
+ghost use Rattle.std.specs.List.{list_any};
 ghost use Rattle.bit_ops.specs.Lists.{words, widths};
 ghost use Rattle.net_ir.specs.Value.{widths_of};
+ghost use Rattle.net_ir.specs.Target.{overlaid};
+ghost use Rattle.net_ir.specs.Lawful.{IsLawfulDriver};
 ghost use Rattle.net_ir.specs.Register.{registers_of, register_words};
-ghost use Rattle.plain_run.specs.Plain.{IsWhole, IsPlainStmt, IsPlain};
-ghost use Rattle.plain_run.specs.code.Pass.{KeepsInitial};
-ghost use Rattle.plain_run.specs.code.Whole.{whole_writes, whole_sampled, store_all};
-ghost use Rattle.net_ir.specs.Run.{is_edge, occurs};
+ghost use Rattle.net_ir.specs.Run.{is_edge, occurs, sampled};
 ghost use Rattle.net_ir.specs.Stepping.{Samples};
+ghost use Rattle.plain_run.specs.Plain.{IsPlain};
+ghost use Rattle.plain_run.specs.code.Pass.{KeepsInitial};
 
-use crate::evaluator::{evaluate, store};
 use bit_ops::Bits;
-use net_ir::{Driver, Spec, Stmt, Trigger, Var};
+use net_ir::{Driver, Spec, Trigger, Var};
+use net_values::execute;
 
 /// Gives the registers whose edge occurs, where the inputs change from `before` to `after`, what they sample in the
 /// solution `values` of the state before. A value for each variable stands in each list. Takes no memory.
@@ -49,12 +50,12 @@ fn sample_driver(
     after: &[Bits],
     registers: &mut [Bits],
 )
-    requires whole { IsWhole vars.now driver.now }
+    requires lawful { IsLawfulDriver vars.now driver.now }
     requires values { widths values.now ≡ widths_of vars.now }
     requires registers { widths registers.old ≡ widths_of vars.now }
-    ensures widths { widths registers.new ≡ widths registers.old }
-    ensures words { words registers.new ≡ store_all (whole_sampled (widths_of vars.now) (words values.now) (words before.now) (words after.now) driver.now)
-        (words registers.old) }
+    ensures widths { widths registers.new ≡ widths_of vars.now }
+    ensures words { words registers.new ≡ overlaid (words registers.old)
+        (sampled vars.now (words values.now) (words before.now) (words after.now) driver.now) }
 {
     match driver {
         Driver::Assign { .. } | Driver::Comb { .. } | Driver::Instance(_) => {}
@@ -107,24 +108,5 @@ fn is_edge(falling: bool, before: u64, after: u64) -> bool
         before == 1 && after == 0
     } else {
         before == 0 && after == 1
-    }
-}
-
-/// Executes a statement: reads in `values`, writes in `registers`.
-fn execute(body: &Stmt, vars: &[Var], values: &[Bits], registers: &mut [Bits])
-    requires plain { IsPlainStmt vars.now body.now }
-    requires values { widths values.now ≡ widths_of vars.now }
-    requires registers { widths registers.old ≡ widths_of vars.now }
-    ensures widths { widths registers.new ≡ widths registers.old }
-    ensures words { words registers.new ≡ store_all (whole_writes (widths_of vars.now) (words values.now) body.now) (words registers.old) }
-{
-    match body {
-        Stmt::Block(parts) => {
-            for part in parts.as_slice() {
-                execute(part, vars, values, registers);
-            }
-        }
-        Stmt::If(..) | Stmt::Case(..) => unreachable!(),
-        Stmt::Assign { target, value, .. } => store(target, evaluate(value, values), registers),
     }
 }

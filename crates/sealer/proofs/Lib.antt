@@ -1,10 +1,5 @@
 pub mod Walking
-pub mod Naming
-pub mod Parts
-pub mod Told
-pub mod Plain
-pub mod Elaborated
+pub mod Loopless
 pub mod Repeats
-pub mod Names
 pub mod Sources
 pub mod Fronts

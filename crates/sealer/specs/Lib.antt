@@ -1,3 +1,4 @@
+pub mod Supported
 pub mod Design
 pub mod Source
 pub mod code

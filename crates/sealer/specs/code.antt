@@ -1,2 +1,1 @@
-pub mod Elaborating
 pub mod Designing

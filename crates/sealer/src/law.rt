@@ -4,13 +4,11 @@ ghost use Rattle.std.specs.Prelude.{◌≡◌, ℕ, List};
 ghost use Rattle.sv_base.specs.declared.refusal.Refusal.{Refusal};
 ghost use Rattle.net_ir.specs.declared.design.Spec.{Spec};
 ghost use Rattle.net_ir.specs.Facts.{HasOneSolution};
-ghost use Rattle.plain_run.specs.declared.tree.Module.{Module};
-ghost use Rattle.sealer.specs.Source.{IsSource, HasDesign, IsRefused};
+ghost use Rattle.sealer.specs.Source.{HasDesign, IsRefused};
 
-/// The bytes of a source have one tree at most for a top, and one design, which has one solution in each state; or one refusal, and
-/// never a design beside it.
+/// The bytes of a source have one design at most for a top, which has one solution in each state; or one refusal, and never a design
+/// beside it.
 pub fn one_source()
-    ensures trees { (top bytes : List ℕ) (first second : Module) → IsSource top bytes first → IsSource top bytes second → first ≡ second }
     ensures designs { (top bytes : List ℕ) (first second : Spec) → HasDesign top bytes first → HasDesign top bytes second → first ≡ second }
     ensures solution { (top bytes : List ℕ) (spec : Spec) → HasDesign top bytes spec → HasOneSolution spec }
     ensures refusals { (top bytes : List ℕ) (first second : Refusal) → IsRefused top bytes first → IsRefused top bytes second → first ≡ second }

@@ -15,7 +15,7 @@ use bit_ops::{Bits, MAX_WIDTH, Word};
 use const_eval::{Bound, Const, Env};
 use expr_parser::{ParseFault, parse_expr};
 use net_ir::{Role, Term, Var};
-use plain_run::evaluate;
+use net_values::evaluate;
 use std::alloc::{AllocError, Global};
 use std::process::Abort;
 use std::test::Fail;

@@ -1,5 +1,5 @@
 -- What statements name, and whether event controls name clocks, by marks of variables.
-use Rattle.std.specs.Prelude.{ℕ, Bool, true, false, not, ◌==◌, ◌&&◌, List, [], ◌∷◌, Option, None, Some, slice_get, if◌then◌else◌}
+use Rattle.std.specs.Prelude.{ℕ, Bool, true, false, ◌==◌, ◌&&◌, List, Option, None, Some, slice_get}
 use Rattle.std.specs.List.{list_all}
 use Rattle.net_ir.specs.declared.design.Role.{Role}
 use Rattle.net_ir.specs.declared.design.Role.TheVariants.{Input, Output, Inner}
@@ -13,7 +13,6 @@ use Rattle.net_ir.specs.declared.design.Driver.{Driver}
 use Rattle.net_ir.specs.declared.design.Driver.TheVariants as driver
 use Rattle.net_ir.specs.declared.design.Driver.TheVariants.{Assign, Comb, Clocked}
 use Rattle.net_ir.specs.Statement.{targets_of, targets_of_layer, arm_targets}
-use Rattle.net_ir.specs.Face.{is_inner}
 use Rattle.net_ir.specs.Marks.{is_clear}
 use Rattle.plain_run.specs.Plain.{named_by}
 
@@ -54,8 +53,3 @@ has_clocks vars read (Assign target value place) = true
 has_clocks vars read (Comb body place) = true
 has_clocks vars read (Clocked triggers body place) = are_clocks vars read triggers
 has_clocks vars read (driver.Instance made) = true
-
--- whether no port stands behind a variable that only the module sees, where one stands before these variables if `behind` says so
-abbrev pub ports_lead : Bool → List Var → Bool
-ports_lead behind [] = true
-ports_lead behind (v ∷ vars) = if is_inner v.role then ports_lead true vars else (not behind && ports_lead behind vars)

@@ -1,9 +1,8 @@
--- One pass over assignments to whole variables, each taken once.
-use Rattle.std.specs.Prelude.{◌≡◌, ℕ, ◌<◌, List, [], ◌∷◌, length, Option, None, Some, slice_index, slice_get, slice_set}
+-- One pass over continuous assignments, each taken once.
+use Rattle.std.specs.Prelude.{◌≡◌, ℕ, ◌<◌, List, [], ◌∷◌, Some, slice_index, slice_get}
 use Rattle.std.specs.Int.{bit_at}
 use Rattle.net_ir.specs.declared.design.Role.TheVariants.{Input, Output, Inner}
 use Rattle.net_ir.specs.declared.design.Var.{Var}
-use Rattle.net_ir.specs.declared.statement.Target.{Target}
 use Rattle.net_ir.specs.declared.design.Driver.{Driver}
 use Rattle.net_ir.specs.declared.design.Driver.TheVariants as driver
 use Rattle.net_ir.specs.declared.design.Driver.TheVariants.{Assign, Comb, Clocked}
@@ -11,11 +10,11 @@ use Rattle.bit_ops.specs.declared.value.Bits.{Bits}
 use Rattle.net_ir.specs.declared.design.Role.{Role}
 use Rattle.bit_ops.specs.Lists.{words}
 use Rattle.net_ir.specs.declared.design.Spec.{Spec}
-use Rattle.net_ir.specs.Value.{val}
+use Rattle.net_ir.specs.Value.{val, widths_of}
+use Rattle.net_ir.specs.Target.{writes_to, overlaid}
 use Rattle.net_ir.specs.Drive.{NoneHolds}
 use Rattle.net_ir.specs.Register.{registers_of, register_words}
 use Rattle.sv_base.specs.Meaning.{State}
-use Rattle.plain_run.specs.Plain.{whole_var}
 
 -- what a variable of this role has before any driver's turn, of the level that is set and the word that a register holds
 abbrev pub source_at : Role → Bits → Bits → Bits
@@ -42,32 +41,14 @@ KeepsInitial spec held = (x k : ℕ) (v : Var) → slice_get spec.vars x ≡ Som
 abbrev pub state_of : Spec → List Bits → List Bits → State
 state_of spec inputs held = record { inputs = words inputs; registers = register_words (registers_of spec) (words held) }
 
--- a value of this width may be stored in the whole of that variable
-abbrev pub IsStorableAt : List ℕ → Option ℕ → ℕ → Type 0
-IsStorableAt ws None width = ⊥
-IsStorableAt ws (Some var) width = (var < length ws) × (width ≡ slice_index ws var)
-
--- so in the whole of the target
-abbrev pub IsStorable : List ℕ → Target → ℕ → Type 0
-IsStorable ws target width = IsStorableAt ws (whole_var target) width
-
--- the valuation after a word is stored in the whole of a variable, where there is one
-abbrev pub store_at : Option ℕ → ℕ → List ℕ → List ℕ
-store_at None word u = u
-store_at (Some var) word u = slice_set u var word
-
--- the valuation after a word is stored in the whole of a target
-abbrev pub store : Target → ℕ → List ℕ → List ℕ
-store target word u = store_at (whole_var target) word u
-
--- the valuation after a driver's turn
-abbrev pub effect : List ℕ → Driver → List ℕ → List ℕ
-effect ws (Assign target value at) u = store target (val ws u value) u
-effect ws (Comb body at) u = u
-effect ws (Clocked triggers body at) u = u
-effect ws (driver.Instance made) u = u
+-- the valuation after a driver's turn: a continuous assignment writes what it gives
+abbrev pub turn : List Var → Driver → List ℕ → List ℕ
+turn vars (Assign target value place) u = overlaid u (writes_to vars u target (val (widths_of vars) u value))
+turn vars (Comb body place) u = u
+turn vars (Clocked triggers body place) u = u
+turn vars (driver.Instance made) u = u
 
 -- the valuation after each of the drivers in turn
-abbrev pub run : List ℕ → List Driver → List ℕ → List ℕ
-run ws [] u = u
-run ws (d ∷ drivers) u = run ws drivers (effect ws d u)
+abbrev pub run : List Var → List Driver → List ℕ → List ℕ
+run vars [] u = u
+run vars (d ∷ drivers) u = run vars drivers (turn vars d u)

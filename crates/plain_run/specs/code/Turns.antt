@@ -42,7 +42,7 @@ given_by (Comb body place) names = []
 given_by (Clocked triggers body place) names = []
 given_by (driver.Instance made) names = []
 
--- whether a continuous assignment reads no variable with a mark
+-- whether the value of a continuous assignment reads no variable with a mark; constant positions read none
 abbrev pub is_settled : Driver → List Bool → Bool
 is_settled (Assign target value place) driven = are_clear driven (reads_of value)
 is_settled (Comb body place) driven = true
@@ -53,23 +53,3 @@ is_settled (driver.Instance made) driven = true
 -- nothing that it or they give at all times
 abbrev pub takes_turn : List Var → Driver → List Bool → List Bool → Bool
 takes_turn vars d written driven = are_free vars written (names_of d) && is_settled d (mark_all (given_by d (names_of d)) driven)
-
--- whether a variable, if it is there, is a net
-abbrev pub net_if : Option Var → Bool
-net_if None = false
-net_if (Some v) = v.wire
-
--- whether a variable is no net
-abbrev pub is_no_net : List Var → ℕ → Bool
-is_no_net vars x = not (net_if (slice_get vars x))
-
--- whether none of these variables is one
-abbrev pub are_no_nets : List Var → List ℕ → Bool
-are_no_nets vars names = list_all (λ x. is_no_net vars x) names
-
--- whether a driver is no process that writes one
-abbrev pub writes_no_net : List Var → Driver → Bool
-writes_no_net vars (Assign target value place) = true
-writes_no_net vars (Comb body place) = are_no_nets vars (named_in body)
-writes_no_net vars (Clocked triggers body place) = are_no_nets vars (named_in body)
-writes_no_net vars (driver.Instance made) = true

@@ -1,10 +1,13 @@
--- The design of modules.
-use Rattle.std.specs.Prelude.{◌≡◌, ℕ, List}
+-- Why a module has no plain design.
+use Rattle.std.specs.Prelude.{◌≡◌, ◌⊎◌, Ok, Err}
+use Rattle.sv_base.specs.declared.refusal.Refusal.{Refusal}
+use Rattle.sv_ast.specs.declared.module.Module.{Module}
 use Rattle.net_ir.specs.declared.design.Spec.{Spec}
-use Rattle.sv_ast.specs.declared.module.Module as source
-use Rattle.plain_run.specs.declared.tree.Module.{Module}
-use Rattle.sealer.specs.Design.{design_of, IsLegal}
+use Rattle.elaborate.specs.Items.{specialised}
+use Rattle.plain_run.specs.Plain.{IsPlain}
+use Rattle.sealer.specs.Design.{not_plain}
 
--- the modules are a legal source of this top, and this is its design
-abbrev pub HaveDesign : List ℕ → List source.Module → Spec → Type 0
-HaveDesign top modules spec = (m : Module) × IsLegal top modules m × (spec ≡ design_of m)
+-- it has no specialisation, or one that is not plain
+abbrev pub IsFlaw : Module → Refusal → Type 0
+IsFlaw m refusal =
+    (specialised m ≡ Err refusal) ⊎ ((spec : Spec) × (specialised m ≡ Ok spec) × (IsPlain spec → ⊥) × (refusal ≡ not_plain))

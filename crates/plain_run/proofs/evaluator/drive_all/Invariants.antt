@@ -8,5 +8,5 @@ use Rattle.plain_run.proofs.evaluator.drive_all.Given as goal
 abbrev pub invariant-loop-driver : goal.invariant-loop-driver
 invariant-loop-driver l = record {
   same_widths : widths l.values ≡ widths_of l.vars;
-  same_words : run (widths_of l.vars) (drop l.driver-index l.drivers) (words l.values) ≡ run (widths_of l.vars) l.drivers (words l.fn.values);
+  same_words : run l.vars (drop l.driver-index l.drivers) (words l.values) ≡ run l.vars l.drivers (words l.fn.values);
 }

@@ -34,4 +34,5 @@ pub returns-clause-plain : goal.returns-clause-plain
 returns-clause-plain c = plain_answer c.args.top.now c.args.bytes.now c.design_of_modules.result (returns-clause-design c)
 
 pub returns-clause-names : goal.returns-clause-names
-returns-clause-names c = names_answer c.args.top.now c.args.bytes.now c.design_of_modules.result (returns-clause-design c)
+returns-clause-names c =
+    names_answer c.specialisations_are_lawful.ensures.ports c.args.top.now c.args.bytes.now c.design_of_modules.result (returns-clause-design c)

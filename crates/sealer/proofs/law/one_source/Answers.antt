@@ -1,10 +1,6 @@
-use Rattle.sealer.proofs.Sources.{Laws, trees_once, designs_once, design_plain, refusals_once, apart}
+use Rattle.sealer.proofs.Sources.{Laws, designs_once, refusals_once, apart}
+use Rattle.sealer.proofs.Fronts.{design_plain}
 use Rattle.sealer.proofs.law.one_source.Goals as goal
-
-pub returns-clause-trees : goal.returns-clause-trees
-returns-clause-trees c =
-    let laws : Laws = record { lists = c.one_list.ensures; refusals = c.one_refusal.ensures; either = c.not_both.ensures; files = c.one_reading.ensures; faults = c.one_refusal-2.ensures; alone = c.not_both-2.ensures } in
-    trees_once laws
 
 pub returns-clause-designs : goal.returns-clause-designs
 returns-clause-designs c =
